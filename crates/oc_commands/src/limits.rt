@@ -73,7 +73,7 @@ pub fn limits_are_as_published()
         × (MAX_GENERATED_EVENTS ≡ 99999) × (MAX_EVENTS ≡ 99999) }
     ensures large { (MAX_LARGE_LINES ≡ 10000000) × (MAX_LARGE_BYTES ≡ 2 ^ 32) × (MAX_LARGE_PUBLISHED ≡ 2 ^ 32)
         × (MAX_RECORD_LINES ≡ 10000000) × (MAX_RECORD_BYTES ≡ 2 ^ 32) × (MAX_RECORD_PUBLISHED ≡ 2 ^ 32) }
-    ensures requests { (MAX_HEAD_BYTES ≡ 8192) × (MAX_FIELDS ≡ 64) × (MAX_BODY_BYTES ≡ 1000000) × (MAX_REQUESTS ≡ 16) × (MAX_RULES ≡ 256)
+    ensures requests { (MAX_HEAD_BYTES ≡ 8192) × (MAX_FIELDS ≡ 64) × (MAX_BODY_BYTES ≡ 1000000) × (MAX_REQUESTS ≡ 1000) × (MAX_RULES ≡ 256)
         × (RULE_TOKEN_BYTES ≡ 200) × (IDLE_MILLIS ≡ 30000) × (FOLLOW_MILLIS ≡ 10000) × (MAX_TURNS ≡ 10 ^ 9) × (ENDLESS ≡ 2 ^ 64 - 1) }
     ensures clients { (MAX_REDIRECTIONS ≡ 2) × (MAX_CONTENT_BYTES ≡ 2 ^ 40) × (MAX_OPEN_BYTES ≡ 2 ^ 40) × (MAX_FOLLOWED ≡ 10 ^ 6)
         × (PUT_PIECE_BYTES ≡ 524288) × (MAX_TOKEN_BYTES ≡ 200) }

@@ -17,7 +17,7 @@ use Rattle.oc_routes.specs.declared.waiting.Prospect.TheVariants as prospects
 use Rattle.oc_routes.specs.declared.verdict.Refusal.{Refusal}
 use Rattle.oc_routes.specs.declared.tally.MessageFault.{MessageFault}
 use Rattle.oc_deeds.specs.Answered.{AreAnswered, AreAnsweredBy, IsAnsweredBy, answer_of, back_of}
-use Rattle.oc_deeds.specs.Asks.{has_to_wait, obeys, refuses_or, responds, takes_on, takes_up, waiting}
+use Rattle.oc_deeds.specs.Asks.{answers_or_waits, has_to_wait, obeys, refuses_or, responds, settled_at, takes_on, takes_up, waiting}
 use Rattle.oc_deeds.specs.Choices.{due_index, next_to_dial, prospect_of, wait_for}
 use Rattle.oc_deeds.specs.Deeds.{Accepts, BreaksOff, Deed, Dials, Drops, Gives, Keeps, LaysAside, Looks, Notes, Permits, Probes, Reads, Refuses, Rejects, Replies, Rereads, Running, Says, Sees, Setting, Takes, Tells, Waits, after, after_all}
 use Rattle.oc_config.specs.Settings.{Settings}
@@ -153,16 +153,19 @@ responded : (r : Pending) (input : Option Input) (now : ℕ) (s : Setting) (a : 
 responded r None now s a = (refl, tt)
 responded r (Some i) now s a = (tt, (tt, (tt, (refl, tt))))
 
-took_on : (c : ℕ) (request : Request) (now : ℕ) (s : Setting) (a : Running) → AreAnswered s (takes_on c request now s a) a
-took_on c request now s a = by_condition (unmet request.asked.operation a.node.control.me (shelf a.node.groups))
+answered_or_waits : (c : ℕ) (request : Request) (now : ℕ) (s : Setting) (a : Running) → AreAnswered s (answers_or_waits c request now s a) a
+answered_or_waits c request now s a = by_test (has_to_wait request a.node)
   where
     by_test : (b : Bool) → AreAnswered s (if b then Waits (waiting c request now) ∷ [] else responds (pending c request (is_some request.input) false) request.input now s a) a
     by_test true = (tt, tt)
     by_test false = responded (pending c request (is_some request.input) false) request.input now s a
 
+took_on : (c : ℕ) (request : Request) (now : ℕ) (s : Setting) (a : Running) → AreAnswered s (takes_on c request now s a) a
+took_on c request now s a = by_condition (unmet request a.node.control.me (shelf a.node.groups))
+  where
     by_condition : (why : Option Refusal) → AreAnswered s (refuses_or why c request now s a) a
     by_condition (Some why) = (tt, tt)
-    by_condition None = by_test (has_to_wait request a.node)
+    by_condition None = answered_or_waits c (settled_at a.node.groups request) now s a
 
 obeyed : (c count : ℕ) (v : Verdict) (now : ℕ) (s : Setting) (a : Running) → AreAnswered s (obeys c count v now s a) a
 obeyed c count verdicts.Wait now s a = tt
@@ -198,7 +201,7 @@ took_up None now s a = tt
 took_up (Some (works.Content p)) now s a = tt
 took_up (Some (works.Aside p)) now s a = silent_all answers.Ok None s (goes_on p now s a) a (silent_moves p now (prospect_of p (shelf a.node.groups) now))
 took_up (Some (works.Waits w)) now s a =
-    responded (pending w.connection w.request (is_some (client_input w.request.asked.operation w.request.asked.hint)) true) (client_input w.request.asked.operation w.request.asked.hint) now s a
+    responded (pending w.connection w.request (is_some (client_input w.request.asked)) true) (client_input w.request.asked) now s a
 
 took_due : (pace : Pace) (o : Option Work) (before seconds : ℕ) (s : Setting) (a : Running) → AreAnswered s (takes_due pace o before seconds s a) a
 took_due pace o before seconds s a =
@@ -225,7 +228,7 @@ silent_settled (Ok new) old s a = (tt, silent_measured (fresh s.me old new) s (a
 silent_by : (r : Reread) (s : Setting) (a : Running) → AreSilent (goes_by r s a)
 silent_by rereads.Nothing s a = tt
 silent_by (rereads.Unfit why) s a = (tt, tt)
-silent_by (rereads.Config new) s a = silent_settled (fitting s.me a.config new) a.config s a
+silent_by (rereads.Config new) s a = silent_settled (fitting s a.config new) a.config s a
 
 silent_looks : (look : Look) (r : Reread) (s : Setting) (a : Running) → AreSilent (looks_again look r s a)
 silent_looks look r s a = (tt, silent_by r s (after (Looks look) a))

@@ -6,6 +6,7 @@ use Rattle.oc_link.specs.declared.counts.LinkCounts.{LinkCounts}
 use Rattle.oc_model.specs.declared.input.Input.{Input}
 use Rattle.std.specs.Prelude.{unwrap_or}
 use Rattle.oc_config.specs.Settings.{Settings}
+use Rattle.oc_deeds.specs.Changes.{Change, changes_of, deed_change, with_change}
 use Rattle.oc_deeds.specs.Deeds.{Deed, Running, Setting, after, after_all, calls, calls_of, config_behind, deed_input, inputs_of, line, lines, reread_of, with_input}
 use Rattle.oc_deeds.specs.Deeds as deeds
 use Rattle.oc_deeds.specs.Done.{CountsAll}
@@ -26,6 +27,15 @@ with_append (Some i) is js = refl
 pub inputs_append : (ds es : List Deed) → inputs_of (ds ++ es) ≡ inputs_of ds ++ inputs_of es
 inputs_append [] es = refl
 inputs_append (d ∷ ds) es = ap (λ (is : List Input). with_input (deed_input d) is) (inputs_append ds es) ∙ with_append (deed_input d) (inputs_of ds) (inputs_of es)
+
+-- their changes of the node
+changes_with : (o : Option Change) (cs more : List Change) → with_change o (cs ++ more) ≡ with_change o cs ++ more
+changes_with None cs more = refl
+changes_with (Some c) cs more = refl
+
+pub changes_append : (ds es : List Deed) → changes_of (ds ++ es) ≡ changes_of ds ++ changes_of es
+changes_append [] es = refl
+changes_append (d ∷ ds) es = ap (λ (cs : List Change). with_change (deed_change d) cs) (changes_append ds es) ∙ changes_with (deed_change d) (changes_of ds) (changes_of es)
 
 -- a running node after deeds
 pub after_append : (ds es : List Deed) (a : Running) → after_all (ds ++ es) a ≡ after_all es (after_all ds a)

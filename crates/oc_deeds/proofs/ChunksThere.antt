@@ -14,6 +14,7 @@ use Rattle.oc_model.specs.Serving.{client_of, redirects, server_for}
 use Rattle.oc_model.specs.Step.{kept_at, piece_of, plan, step}
 use Rattle.oc_model.specs.declared.answer.Answer.{Answer}
 use Rattle.oc_model.specs.declared.answer.Answer.TheVariants as answers
+use Rattle.oc_model.specs.declared.input.Input.{Input}
 use Rattle.oc_model.specs.declared.input.Input.TheVariants as inputs
 use Rattle.oc_routes.specs.Contents.{begun}
 use Rattle.oc_routes.specs.Shown.{here_answer, known_shown, location_of, of_shown, shown, told_text}
@@ -21,14 +22,19 @@ use Rattle.oc_routes.specs.Waits.{holding}
 use Rattle.oc_routes.specs.declared.hint.Hint.{Hint}
 use Rattle.oc_routes.specs.declared.hint.Hint.TheVariants.{Plain, Here, Of, Known}
 use Rattle.oc_routes.specs.declared.holding.Holding.{Holding}
-use Rattle.oc_routes.specs.Group.{client_response, given_response, here_response, is_past, past_reply, redirection, served}
+use Rattle.oc_routes.specs.Group.{chosen, client_response, given_response, here_response, is_chunked, past_reply, redirection, selected_response, selection_here, shown_response}
+use Rattle.oc_routes.specs.Manners.{content_for}
 use Rattle.oc_routes.specs.Responses.{address_of, whole, whole_for}
+use Rattle.oc_routes.specs.Selections.{content_of, input_by, is_past}
+use Rattle.oc_select.specs.declared.content.Content.{Content}
+use Rattle.oc_select.specs.declared.selection.Selection.{Selection}
+use Rattle.oc_select.specs.declared.selection.Selection.TheVariants as selections
 use Rattle.oc_routes.specs.declared.manner.Manner.{Manner}
 use Rattle.oc_routes.specs.declared.manner.Manner.TheVariants.{HeadAlone, Once, Follow}
 use Rattle.oc_routes.specs.declared.routes.Operation.TheVariants as asks
 use Rattle.oc_routes.proofs.Holdings.{held_is}
 use Rattle.oc_deeds.specs.Deeds.{content_at}
-use Rattle.oc_deeds.specs.Replying.{IsGivable, client_content}
+use Rattle.oc_deeds.specs.Replying.{IsGivable, asked_of, client_content}
 
 -- an answer serves no more than the node holds from there on
 abbrev Serves : Answer → ℕ → ℕ → Type 0
@@ -50,24 +56,24 @@ here_serves true false held start = omega arith
 here_serves false true held start = tt
 here_serves false false held start = tt
 
-of_serves : (length : ℕ) (answer : Answer) (sealed : Bool) (held start : ℕ) → Serves answer held start → ServesShown (of_shown length answer sealed start).sealed (of_shown length answer sealed start).answer held start
-of_serves length answer true held start h = tt
-of_serves length answers.Ok false held start h = tt
-of_serves length answers.Ignored false held start h = tt
-of_serves length answers.Gap false held start h = tt
-of_serves length answers.NotSource false held start h = tt
-of_serves length answers.NoGroup false held start h = tt
-of_serves length answers.Groups false held start h = tt
-of_serves length answers.TooLong false held start h = tt
-of_serves length answers.Own false held start h = tt
-of_serves length answers.Fixed false held start h = tt
-of_serves length answers.Waiting false held start h = tt
-of_serves length answers.Spent false held start h = tt
-of_serves length answers.Sealed false held start h = tt
-of_serves length (answers.Redirect node) false held start h = tt
-of_serves length (answers.Serve count) false held start h = tt
+of_serves : (told : ℕ) (answer : Answer) (sealed : Bool) (held start : ℕ) → Serves answer held start → ServesShown (of_shown told answer sealed held start).sealed (of_shown told answer sealed held start).answer held start
+of_serves told answer true held start h = tt
+of_serves told answers.Ok false held start h = tt
+of_serves told answers.Ignored false held start h = tt
+of_serves told answers.Gap false held start h = tt
+of_serves told answers.NotSource false held start h = tt
+of_serves told answers.NoGroup false held start h = tt
+of_serves told answers.Groups false held start h = tt
+of_serves told answers.TooLong false held start h = tt
+of_serves told answers.Own false held start h = tt
+of_serves told answers.Fixed false held start h = tt
+of_serves told answers.Waiting false held start h = tt
+of_serves told answers.Spent false held start h = tt
+of_serves told answers.Sealed false held start h = tt
+of_serves told (answers.Redirect node) false held start h = tt
+of_serves told (answers.Serve count) false held start h = tt
 
-known_serves : (answer : Answer) (sealed : Bool) (held start : ℕ) → Serves answer held start → ServesShown (known_shown answer sealed).sealed (known_shown answer sealed).answer held start
+known_serves : (answer : Answer) (sealed : Bool) (held start : ℕ) → Serves answer held start → ServesShown (known_shown answer sealed held).sealed (known_shown answer sealed held).answer held start
 known_serves answers.Ok sealed held start h = shown_serves sealed answers.Ok held start h
 known_serves answers.Ignored sealed held start h = shown_serves sealed answers.Ignored held start h
 known_serves answers.Gap sealed held start h = shown_serves sealed answers.Gap held start h
@@ -97,86 +103,125 @@ range_there group start count chunked ks fits = by_test (nat_le (start + count) 
     by_test true = λ is. let few = fits is in omega (arith, few)
     by_test false = tt
 
-served_there : (group : List ℕ) (manner : Manner) (sealed last : Bool) (start count : ℕ) (ks : List Group) → ServesShown sealed (answers.Serve count) (length (bytes_of group ks)) start
-    → IsGivable (content_at group (served manner sealed last start count).content) ks
-served_there group HeadAlone sealed last start count ks h = tt
-served_there group Once sealed last start count ks h = range_there group start count false ks (λ (is : false ≡ true). absurd (false≢true is))
-served_there group Follow true last start count ks h = range_there group start count false ks (λ (is : false ≡ true). absurd (false≢true is))
-served_there group Follow false last start count ks h = range_there group start count true ks (λ is. h)
+-- bytes that are not given as chunks need not be there
+plain_there : (group : List ℕ) (manner : Manner) (start count : ℕ) (ks : List Group) → IsGivable (content_at group (content_for manner (record { start = start; count = count; chunked = false }))) ks
+plain_there group HeadAlone start count ks = tt
+plain_there group Once start count ks = range_there group start count false ks (λ (is : false ≡ true). absurd (false≢true is))
+plain_there group Follow start count ks = range_there group start count false ks (λ (is : false ≡ true). absurd (false≢true is))
 
--- the bytes that a client is given are there, where its start may be past the end of its group
-past_or_served : (group : List ℕ) (start count : ℕ) (manner : Manner) (sealed last past : Bool) (h : Holding) (ks : List Group) → ServesShown sealed (answers.Serve count) (length (bytes_of group ks)) start
-    → IsGivable (content_at group (if past then whole_for manner (past_reply h.held) else served manner sealed last start count).content) ks
-past_or_served group start count manner sealed last true h ks serves = tt
-past_or_served group start count manner sealed last false h ks serves = served_there group manner sealed last start count ks serves
+served_there : (group : List ℕ) (manner : Manner) (sealed : Bool) (start count : ℕ) (ks : List Group) → ServesShown sealed (answers.Serve count) (length (bytes_of group ks)) start
+    → IsGivable (content_at group (content_for manner (record { start = start; count = count; chunked = is_chunked manner sealed }))) ks
+served_there group HeadAlone sealed start count ks h = tt
+served_there group Once sealed start count ks h = plain_there group Once start count ks
+served_there group Follow true start count ks h = plain_there group Follow start count ks
+served_there group Follow false start count ks h = range_there group start count true ks (λ is. h)
+
+-- the bytes that a client is given are there, whatever it selected of them; a part is not given as chunks
+chosen_there : (group : List ℕ) (start : ℕ) (manner : Manner) (hint : Hint) (what : Selection) (last : Bool) (sealed : Bool) (count : ℕ) (content : Content) (ks : List Group) → ServesShown sealed (answers.Serve count) (length (bytes_of group ks)) start
+    → IsGivable (content_at group (chosen (record { group = group; start = start; manner = manner; hint = hint; selection = what; last = last }) what sealed count content).content) ks
+chosen_there group start manner hint selections.Whole last sealed count content ks h = served_there group manner sealed start count ks h
+chosen_there group start manner hint (selections.Part at size) last sealed count content ks h = plain_there group manner at size ks
+chosen_there group start manner hint selections.NotModified last sealed count content ks h = served_there group manner sealed start count ks h
+chosen_there group start manner hint selections.PreconditionFailed last sealed count content ks h = served_there group manner sealed start count ks h
+chosen_there group start manner hint selections.Unsatisfiable last sealed count content ks h = tt
+
+-- its start may be past the end of its group
+past_or_served : (group : List ℕ) (start : ℕ) (manner : Manner) (hint : Hint) (what : Selection) (last : Bool) (sealed : Bool) (count : ℕ) (content : Content) (past : Bool) (h : Holding) (ks : List Group) → ServesShown sealed (answers.Serve count) (length (bytes_of group ks)) start
+    → IsGivable (content_at group (if past then whole_for manner (past_reply h.held) last else chosen (record { group = group; start = start; manner = manner; hint = hint; selection = what; last = last }) what sealed count content).content) ks
+past_or_served group start manner hint what last sealed count content true h ks serves = tt
+past_or_served group start manner hint what last sealed count content false h ks serves = chosen_there group start manner hint what last sealed count content ks serves
 
 -- the bytes given of those that are here, by any answer
-given_there : (group : List ℕ) (start : ℕ) (manner : Manner) (answer : Answer) (sealed last : Bool) (h : Holding) (ks : List Group) → ServesShown sealed answer (length (bytes_of group ks)) start
-    → IsGivable (content_at group (given_response start manner answer sealed last h).content) ks
-given_there group start manner answers.Ok sealed last h ks serves = tt
-given_there group start manner answers.Ignored sealed last h ks serves = tt
-given_there group start manner answers.Gap sealed last h ks serves = tt
-given_there group start manner answers.NotSource sealed last h ks serves = tt
-given_there group start manner answers.NoGroup sealed last h ks serves = tt
-given_there group start manner answers.Groups sealed last h ks serves = tt
-given_there group start manner answers.TooLong sealed last h ks serves = tt
-given_there group start manner answers.Own sealed last h ks serves = tt
-given_there group start manner answers.Fixed sealed last h ks serves = tt
-given_there group start manner answers.Waiting sealed last h ks serves = tt
-given_there group start manner answers.Spent sealed last h ks serves = tt
-given_there group start manner answers.Sealed sealed last h ks serves = tt
-given_there group start manner (answers.Redirect node) sealed last h ks serves = tt
-given_there group start manner (answers.Serve count) sealed last h ks serves = past_or_served group start count manner sealed last (is_past start h) h ks serves
+given_there : (group : List ℕ) (start : ℕ) (manner : Manner) (hint : Hint) (what : Selection) (last : Bool) (answer : Answer) (sealed : Bool) (long : ℕ) (h : Holding) (ks : List Group) → ServesShown sealed answer (length (bytes_of group ks)) start
+    → IsGivable (content_at group (given_response (record { group = group; start = start; manner = manner; hint = hint; selection = what; last = last }) answer sealed long h).content) ks
+given_there group start manner hint what last answers.Ok sealed long h ks serves = tt
+given_there group start manner hint what last answers.Ignored sealed long h ks serves = tt
+given_there group start manner hint what last answers.Gap sealed long h ks serves = tt
+given_there group start manner hint what last answers.NotSource sealed long h ks serves = tt
+given_there group start manner hint what last answers.NoGroup sealed long h ks serves = tt
+given_there group start manner hint what last answers.Groups sealed long h ks serves = tt
+given_there group start manner hint what last answers.TooLong sealed long h ks serves = tt
+given_there group start manner hint what last answers.Own sealed long h ks serves = tt
+given_there group start manner hint what last answers.Fixed sealed long h ks serves = tt
+given_there group start manner hint what last answers.Waiting sealed long h ks serves = tt
+given_there group start manner hint what last answers.Spent sealed long h ks serves = tt
+given_there group start manner hint what last answers.Sealed sealed long h ks serves = tt
+given_there group start manner hint what last (answers.Redirect node) sealed long h ks serves = tt
+given_there group start manner hint what last (answers.Serve count) sealed long h ks serves = past_or_served group start manner hint what last sealed count (content_of long sealed) (is_past start h) h ks serves
 
 -- the bytes of a group that this node holds are there
 abbrev HereServes : List ℕ → ℕ → Holding → List Group → Type 0
 HereServes group start h ks = ServesShown h.sealed (here_answer h start) (length (bytes_of group ks)) start
 
 -- a client that would be sent to a node without an address is given the bytes that are here
-here_given : (group : List ℕ) (start : ℕ) (manner : Manner) (last : Bool) (h : Holding) (ks : List Group) → HereServes group start h ks
-    → IsGivable (content_at group (here_response start manner last h).content) ks
-here_given group start Follow last h ks serves = tt
-here_given group start HeadAlone last h ks serves = given_there group start HeadAlone (here_answer h start) h.sealed last h ks serves
-here_given group start Once last h ks serves = given_there group start Once (here_answer h start) h.sealed last h ks serves
+here_given : (group : List ℕ) (start : ℕ) (manner : Manner) (hint : Hint) (what : Selection) (last : Bool) (h : Holding) (ks : List Group) → HereServes group start h ks → IsGivable (content_at group (here_response (record { group = group; start = start; manner = manner; hint = hint; selection = what; last = last }) manner h).content) ks
+here_given group start Follow hint what last h ks serves = tt
+here_given group start HeadAlone hint what last h ks serves = given_there group start HeadAlone hint (selection_here hint h.sealed what) last (here_answer h start) h.sealed h.held h ks serves
+here_given group start Once hint what last h ks serves = given_there group start Once hint (selection_here hint h.sealed what) last (here_answer h start) h.sealed h.held h ks serves
 
-sent_or_here : (group : List ℕ) (start : ℕ) (manner : Manner) (told : List ℕ) (node : ℕ) (last nowhere : Bool) (h : Holding) (addresses : List (Option (List ℕ))) (ks : List Group) → HereServes group start h ks
-    → IsGivable (content_at group (if nowhere then here_response start manner last h else whole (redirection (location_of (address_of addresses node) group start told manner))).content) ks
-sent_or_here group start manner told node last true h addresses ks serves = here_given group start manner last h ks serves
-sent_or_here group start manner told node last false h addresses ks serves = tt
+sent_or_here : (group : List ℕ) (start : ℕ) (manner : Manner) (hint : Hint) (what : Selection) (last : Bool) (address : List ℕ) (nowhere : Bool) (h : Holding) (ks : List Group) → HereServes group start h ks
+    → IsGivable (content_at group (if nowhere then here_response (record { group = group; start = start; manner = manner; hint = hint; selection = what; last = last }) manner h else whole (redirection (location_of address group start (told_text hint h) manner)) last).content) ks
+sent_or_here group start manner hint what last address true h ks serves = here_given group start manner hint what last h ks serves
+sent_or_here group start manner hint what last address false h ks serves = tt
 
-client_there : (group : List ℕ) (start : ℕ) (manner : Manner) (told : List ℕ) (answer : Answer) (sealed last : Bool) (h : Holding) (addresses : List (Option (List ℕ))) (ks : List Group) → ServesShown sealed answer (length (bytes_of group ks)) start
-    → HereServes group start h ks → IsGivable (content_at group (client_response group start manner told answer sealed last h addresses).content) ks
-client_there group start manner told answers.Ok sealed last h addresses ks serves here = tt
-client_there group start manner told answers.Ignored sealed last h addresses ks serves here = tt
-client_there group start manner told answers.Gap sealed last h addresses ks serves here = tt
-client_there group start manner told answers.NotSource sealed last h addresses ks serves here = tt
-client_there group start manner told answers.NoGroup sealed last h addresses ks serves here = tt
-client_there group start manner told answers.Groups sealed last h addresses ks serves here = tt
-client_there group start manner told answers.TooLong sealed last h addresses ks serves here = tt
-client_there group start manner told answers.Own sealed last h addresses ks serves here = tt
-client_there group start manner told answers.Fixed sealed last h addresses ks serves here = tt
-client_there group start manner told answers.Waiting sealed last h addresses ks serves here = tt
-client_there group start manner told answers.Spent sealed last h addresses ks serves here = tt
-client_there group start manner told answers.Sealed sealed last h addresses ks serves here = tt
-client_there group start manner told (answers.Redirect node) sealed last h addresses ks serves here =
-    sent_or_here group start manner told node last (length (address_of addresses node) == 0) h addresses ks here
-client_there group start manner told (answers.Serve count) sealed last h addresses ks serves here = given_there group start manner (answers.Serve count) sealed last h ks serves
+client_there : (group : List ℕ) (start : ℕ) (manner : Manner) (hint : Hint) (what : Selection) (last : Bool) (answer : Answer) (sealed : Bool) (long : ℕ) (h : Holding) (addresses : List (Option (List ℕ))) (ks : List Group) → ServesShown sealed answer (length (bytes_of group ks)) start
+    → HereServes group start h ks → IsGivable (content_at group (client_response (record { group = group; start = start; manner = manner; hint = hint; selection = what; last = last }) answer sealed long h addresses).content) ks
+client_there group start manner hint what last answers.Ok sealed long h addresses ks serves here = tt
+client_there group start manner hint what last answers.Ignored sealed long h addresses ks serves here = tt
+client_there group start manner hint what last answers.Gap sealed long h addresses ks serves here = tt
+client_there group start manner hint what last answers.NotSource sealed long h addresses ks serves here = tt
+client_there group start manner hint what last answers.NoGroup sealed long h addresses ks serves here = tt
+client_there group start manner hint what last answers.Groups sealed long h addresses ks serves here = tt
+client_there group start manner hint what last answers.TooLong sealed long h addresses ks serves here = tt
+client_there group start manner hint what last answers.Own sealed long h addresses ks serves here = tt
+client_there group start manner hint what last answers.Fixed sealed long h addresses ks serves here = tt
+client_there group start manner hint what last answers.Waiting sealed long h addresses ks serves here = tt
+client_there group start manner hint what last answers.Spent sealed long h addresses ks serves here = tt
+client_there group start manner hint what last answers.Sealed sealed long h addresses ks serves here = tt
+client_there group start manner hint what last (answers.Redirect node) sealed long h addresses ks serves here = sent_or_here group start manner hint what last (address_of addresses node) (length (address_of addresses node) == 0) h ks here
+client_there group start manner hint what last (answers.Serve count) sealed long h addresses ks serves here = given_there group start manner hint what last (answers.Serve count) sealed long h ks serves
+
+-- a client whose condition answers its request is given no content
+selected_there : (group : List ℕ) (start : ℕ) (manner : Manner) (hint : Hint) (what : Selection) (last : Bool) (answer : Answer) (h : Holding) (addresses : List (Option (List ℕ))) (ks : List Group) → IsGivable (content_at group (shown_response (record { group = group; start = start; manner = manner; hint = hint; selection = what; last = last }) (shown hint answer h start) h addresses).content) ks
+    → IsGivable (content_at group (selected_response (record { group = group; start = start; manner = manner; hint = hint; selection = what; last = last }) what answer h addresses).content) ks
+selected_there group start manner hint selections.Whole last answer h addresses ks there = there
+selected_there group start manner hint (selections.Part at size) last answer h addresses ks there = there
+selected_there group start manner hint selections.NotModified last answer h addresses ks there = tt
+selected_there group start manner hint selections.PreconditionFailed last answer h addresses ks there = tt
+selected_there group start manner hint selections.Unsatisfiable last answer h addresses ks there = there
 
 -- the reply to a client that is shown no more than is held
-reply_there : (group : List ℕ) (area start : ℕ) (manner : Manner) (hint : Hint) (last : Bool) (answer : Answer) (ks : List Group) (addresses : List (Option (List ℕ)))
+reply_there : (group : List ℕ) (area start : ℕ) (manner : Manner) (hint : Hint) (what : Selection) (last : Bool) (answer : Answer) (ks : List Group) (addresses : List (Option (List ℕ)))
     → ServesShown (shown hint answer (holding group (shelf ks)) start).sealed (shown hint answer (holding group (shelf ks)) start).answer (holding group (shelf ks)).held start
-    → IsGivable (client_content (asks.Client group area start manner) hint last answer ks addresses) ks
-reply_there group area start manner hint last answer ks addresses serves =
+    → IsGivable (client_content (asked_of (asks.Client group area start manner) hint what) last answer ks addresses) ks
+reply_there group area start manner hint what last answer ks addresses serves =
     let h = holding group (shelf ks) in
-    client_there group start manner (told_text hint h) (shown hint answer h start).answer (shown hint answer h start).sealed last h addresses ks
+    selected_there group start manner hint what last answer h addresses ks
+    (client_there group start manner hint what last (shown hint answer h start).answer (shown hint answer h start).sealed (shown hint answer h start).length h addresses ks
     (subst (λ (n : ℕ). ServesShown (shown hint answer h start).sealed (shown hint answer h start).answer n start) (held_is group ks) serves)
-    (subst (λ (n : ℕ). ServesShown h.sealed (here_answer h start) n start) (held_is group ks) (here_serves h.there h.sealed h.held start))
+    (subst (λ (n : ℕ). ServesShown h.sealed (here_answer h start) n start) (held_is group ks) (here_serves h.there h.sealed h.held start)))
 
 -- the bytes are there where the node answers itself
-pub here_there : (answer : Answer) (ks : List Group) (group : List ℕ) (area start : ℕ) (manner : Manner) (last : Bool) (addresses : List (Option (List ℕ))) → IsGivable (client_content (asks.Client group area start manner) Here last answer ks addresses) ks
-here_there answer ks group area start manner last addresses =
+pub here_there : (answer : Answer) (ks : List Group) (group : List ℕ) (area start : ℕ) (manner : Manner) (what : Selection) (last : Bool) (addresses : List (Option (List ℕ))) → IsGivable (client_content (asked_of (asks.Client group area start manner) Here what) last answer ks addresses) ks
+here_there answer ks group area start manner what last addresses =
     let h = holding group (shelf ks) in
-    reply_there group area start manner Here last answer ks addresses (here_serves h.there h.sealed h.held start)
+    reply_there group area start manner Here what last answer ks addresses (here_serves h.there h.sealed h.held start)
+
+-- no content is given where a condition answers
+pub condition_there : (answer : Answer) (ks : List Group) (group : List ℕ) (area start : ℕ) (manner : Manner) (hint : Hint) (what : Selection) (last : Bool) (addresses : List (Option (List ℕ))) (input : Input) → None ≡ input_by what (Some input)
+    → IsGivable (client_content (asked_of (asks.Client group area start manner) hint what) last answer ks addresses) ks
+condition_there answer ks group area start manner hint selections.Whole last addresses input none = absurd (cc none)
+condition_there answer ks group area start manner hint (selections.Part from size) last addresses input none = absurd (cc none)
+condition_there answer ks group area start manner hint selections.NotModified last addresses input none = tt
+condition_there answer ks group area start manner hint selections.PreconditionFailed last addresses input none = tt
+condition_there answer ks group area start manner hint selections.Unsatisfiable last addresses input none = absurd (cc none)
+
+-- a part is what is given of a content, as it is
+pub part_given : (group : List ℕ) (area start at count served : ℕ) (last : Bool) (ks : List Group) (addresses : List (Option (List ℕ))) → is_past start (holding group (shelf ks)) ≡ false
+    → client_content (asked_of (asks.Client group area start Once) Plain (selections.Part at count)) last (answers.Serve served) ks addresses ≡ content_at group (Some (record { start = at; count = count; chunked = false }))
+part_given group area start at count served last ks addresses here =
+    let h = holding group (shelf ks) in
+    ap (λ (b : Bool). content_at group (if b then whole_for Once (past_reply h.held) last else chosen (record { group = group; start = start; manner = Once; hint = Plain; selection = selections.Part at count; last = last }) (selections.Part at count) h.sealed served (content_of h.held h.sealed)).content) here
 
 -- Steps
 
@@ -207,11 +252,11 @@ groups_same n area start group =
     (client_keeps (line_of group (shelf n.groups)) (plan_begun n.control) area start)
 
 -- the bytes are there where the answer is that of the step
-pub step_there : (n : Node) (group : List ℕ) (area start : ℕ) (manner : Manner) (hint : Hint) (last : Bool) (addresses : List (Option (List ℕ)))
-    → IsGivable (client_content (asks.Client group area start manner) hint last (step n (inputs.Client area start group)).answer (step n (inputs.Client area start group)).node.groups addresses) (step n (inputs.Client area start group)).node.groups
-step_there n group area start manner hint last addresses =
+pub step_there : (n : Node) (group : List ℕ) (area start : ℕ) (manner : Manner) (hint : Hint) (what : Selection) (last : Bool) (addresses : List (Option (List ℕ)))
+    → IsGivable (client_content (asked_of (asks.Client group area start manner) hint what) last (step n (inputs.Client area start group)).answer (step n (inputs.Client area start group)).node.groups addresses) (step n (inputs.Client area start group)).node.groups
+step_there n group area start manner hint what last addresses =
     let o = step n (inputs.Client area start group) in
     let h = holding group (shelf o.node.groups) in
     let held : h.held ≡ length (bytes_of group n.groups) = held_is group o.node.groups ∙ ap (λ (ks : List Group). length (bytes_of group ks)) (groups_same n area start group) in
-    reply_there group area start manner hint last o.answer o.node.groups addresses
+    reply_there group area start manner hint what last o.answer o.node.groups addresses
     (all_serve hint o.answer h start (subst (λ (count : ℕ). Serves o.answer count start) (sym held) (step_serves n area start group)))

@@ -7,7 +7,7 @@ use Rattle.oc_link.specs.declared.event.LinkEvent.{LinkEvent}
 use Rattle.oc_link.specs.declared.event.LinkEvent.TheVariants as events
 use Rattle.oc_model.specs.Lawful.{IsInput}
 use Rattle.oc_routes.specs.Elements.{element_at, without_at}
-use Rattle.oc_routes.specs.Lawful.{IsAsked}
+use Rattle.oc_routes.specs.Lawful.{IsAsking}
 use Rattle.oc_deeds.specs.Asks.{due_of}
 use Rattle.oc_deeds.specs.Deeds.{dials_after, errand_in, with_content}
 use Rattle.oc_deeds.specs.Dials as dials
@@ -73,18 +73,18 @@ module _ (nodes me : ℕ) where
   waiting_there (x ∷ ws) (suc place) w all there = waiting_there ws place w all.1 there
 
   due_by : (o : Option Work) (r : Pending) → ((w : Waiting) → o ≡ Some (works.Waits w) → IsLawfulWaiting nodes me w) → due_of o ≡ dues.Waits r
-      → IsAsked r.asked.operation × IfSome (client_input r.asked.operation r.asked.hint) (IsInput nodes me)
+      → IsAsking r.asked × IfSome (client_input r.asked) (IsInput nodes me)
   due_by None r lawful is = absurd cc
   due_by (Some (works.Content p)) r lawful is = absurd cc
   due_by (Some (works.Aside p)) r lawful is = absurd cc
   due_by (Some (works.Waits w)) r lawful is =
-      let same : pending w.connection w.request (is_some (client_input w.request.asked.operation w.request.asked.hint)) true ≡ r = cc in
+      let same : pending w.connection w.request (is_some (client_input w.request.asked)) true ≡ r = cc in
       let held = lawful w refl in
-      subst (λ (x : Pending). IsAsked x.asked.operation × IfSome (client_input x.asked.operation x.asked.hint) (IsInput nodes me)) same (held.asks, held.input)
+      subst (λ (x : Pending). IsAsking x.asked × IfSome (client_input x.asked) (IsInput nodes me)) same (held.asks, held.input)
 
   -- the operation and the input of a request that waits are lawful
   pub due_lawful : (ws : List Work) (place : ℕ) (r : Pending) → AllByRecursion (IsLawfulWork nodes me) ws → due_of (slice_get ws place) ≡ dues.Waits r
-      → IsAsked r.asked.operation × IfSome (client_input r.asked.operation r.asked.hint) (IsInput nodes me)
+      → IsAsking r.asked × IfSome (client_input r.asked) (IsInput nodes me)
   due_lawful ws place r all is = due_by (slice_get ws place) r (λ w there. waiting_there ws place w all there) is
 
 -- Dials

@@ -1,5 +1,6 @@
 pub mod Results
 pub mod Chains
+pub mod ChangesOf
 pub mod Lawful
 pub mod Messages
 pub mod Cuts
@@ -10,6 +11,8 @@ pub mod Responding
 pub mod Doing
 pub mod TickDue
 pub mod Peers
+pub mod Areas
+pub mod MoreNodes
 pub mod MeasuresTaken
 pub mod Probings
 pub mod WorksOn

@@ -7,7 +7,7 @@ use Rattle.oc_base.specs.Groups.{shelf}
 use Rattle.oc_base.specs.declared.group.Group.{Group}
 use Rattle.oc_link.proofs.Stories.{stands-then}
 use Rattle.oc_link.specs.Failures.{is_failure}
-use Rattle.oc_link.specs.Stands.{after_loss, after_request, after_room, is_awaiting, may, sees, standing_of, untouched}
+use Rattle.oc_link.specs.Stands.{after_loss, after_room, is_awaiting, may, sees, standing_of, untouched}
 use Rattle.oc_link.specs.declared.call.Call.{Call}
 use Rattle.oc_link.specs.declared.call.Call.TheVariants as acts
 use Rattle.oc_link.specs.declared.event.Coming.{Coming}
@@ -35,7 +35,7 @@ use Rattle.oc_routes.specs.declared.asker.Asker.{Asker}
 use Rattle.oc_routes.specs.Asks.{IsInputOf}
 use Rattle.oc_routes.specs.Conditions.{unmet}
 use Rattle.oc_routes.specs.Elements.{element_at}
-use Rattle.oc_routes.specs.Hints.{asked_with_hint}
+use Rattle.oc_routes.specs.Hints.{asked_with_hint, hint_for, with_hint}
 use Rattle.oc_routes.specs.Macs.{is_forged}
 use Rattle.oc_routes.specs.Routes.{response_for}
 use Rattle.oc_routes.specs.Verdicts.{IsVerdict, NodeTerms, answered, fault_met, input_for, is_none, refuse, routed, taken, unfinished, unread, verdict_for, whole, with_body}
@@ -47,8 +47,14 @@ use Rattle.oc_routes.specs.declared.verdict.Verdict.{Verdict}
 use Rattle.oc_routes.specs.declared.verdict.Verdict.TheVariants as verdicts
 use Rattle.oc_routes.specs.declared.waiting.Prospect.{Prospect}
 use Rattle.oc_routes.specs.declared.waiting.Prospect.TheVariants as prospects
-use Rattle.oc_routes.specs.Connections.{awaits_continue, is_last}
+use Rattle.oc_routes.specs.Connections.{awaits_continue, is_last, kept_after}
 use Rattle.oc_routes.specs.Routes.{input_asked}
+use Rattle.oc_routes.specs.Routes as routes
+use Rattle.oc_routes.specs.Selections.{input_by, line_of, selection_of, selectors_for}
+use Rattle.oc_routes.specs.Selections as choices
+use Rattle.oc_routes.specs.declared.holding.Holding.{Holding}
+use Rattle.oc_select.specs.declared.selection.Selection.{Selection}
+use Rattle.oc_select.specs.declared.selection.Selection.TheVariants as selections
 use Rattle.oc_routes.specs.declared.fault.RouteFault.{RouteFault}
 use Rattle.oc_routes.specs.declared.fault.RouteFault.TheVariants as faults
 use Rattle.oc_routes.specs.declared.manner.Manner.{Manner}
@@ -57,10 +63,10 @@ use Rattle.oc_routes.specs.declared.verdict.Refusal.{Refusal}
 use Rattle.oc_routes.specs.declared.refused.Refused.TheVariants as refusals
 use Rattle.oc_routes.specs.declared.routes.Operation.{Operation}
 use Rattle.oc_routes.specs.declared.routes.Operation.TheVariants as asks
-use Rattle.oc_deeds.proofs.ChunksThere.{here_there, step_there}
+use Rattle.oc_deeds.proofs.ChunksThere.{condition_there, here_there, step_there}
 use Rattle.oc_deeds.proofs.Settled.{AllQuiet, IsLeft, IsOrderly, all_quiet, breaks, drops, fits_if, gives, lays, one_at_most, orderly_behind, orderly_none, orderly_then, permits, quiet_behind, quiet_looks, refuses_request, replies_request, settled_by, waits}
 use Rattle.oc_routes.specs.declared.tally.MessageFault.{MessageFault}
-use Rattle.oc_deeds.specs.Asks.{has_to_wait, holding_for, obeys, refuses_or, replies, report_for, responds, response_now, takes_on, takes_up, waiting}
+use Rattle.oc_deeds.specs.Asks.{answers_or_waits, has_to_wait, holding_for, obeys, refuses_or, replies, report_for, responds, response_now, settled_at, takes_on, takes_up, waiting}
 use Rattle.oc_deeds.specs.Brief.{told_of}
 use Rattle.oc_deeds.specs.Records.{told_ahead}
 use Rattle.oc_deeds.specs.Brought.{comes_back}
@@ -70,7 +76,7 @@ use Rattle.oc_deeds.specs.Rereading.{looks_again}
 use Rattle.oc_deeds.specs.Hurries.{came_hurries}
 use Rattle.oc_deeds.specs.Pace.{has_passed, wait_until}
 use Rattle.oc_deeds.specs.Parts.{nothing, one, ◌>>◌}
-use Rattle.oc_deeds.specs.Replying.{HasContent, IsGivable, MayAnswer, phase_on, works_on}
+use Rattle.oc_deeds.specs.Replying.{HasContent, IsGivable, MayAnswer, asked_of, phase_on, works_on}
 use Rattle.oc_deeds.specs.Rooms.{goes_on, is_told, moves, takes_room, room_for}
 use Rattle.oc_deeds.specs.Rooms as rooms
 use Rattle.oc_deeds.specs.Telling.{takes_in}
@@ -161,59 +167,78 @@ has_room s made c now a settled = by_work (work_on c a.works) refl
 
 -- Requests
 
--- a request of a client has its own input, or is answered by the node itself
+-- a request of which nothing is selected yet, and which has its client's input, or is answered by the node itself
+pub record IsUnsettled (asked : Asked) (input : Option Input) : Type 0 where
+  pub whole : asked.selection ≡ selections.Whole
+  pub own : IsInputOf asked input
+
 abbrev pub HasInput : Verdict → Type 0
-HasInput (verdicts.Ask request) = IsInputOf request.asked.operation request.asked.hint request.input
+HasInput (verdicts.Ask request) = IsUnsettled request.asked request.input
 HasInput verdict = Unit {0}
 
-client_at_once : (group : List ℕ) (area start : ℕ) (manner : Manner) (hint : Hint) (last : Bool) (back : Option Message) (ks : List Group) (addresses : List (Option (List ℕ))) (key : Option (List ℕ)) (told : List ℕ)
-    → IsInputOf (asks.Client group area start manner) hint None
-    → IsGivable (content_in (asks.Client group area start manner) (response_for (record { operation = asks.Client group area start manner; hint = hint }) last answers.Ok back (holding_for (asks.Client group area start manner) ks) addresses key told).content) ks
-client_at_once group area start manner Here last back ks addresses key told is = here_there answers.Ok ks group area start manner last addresses
-client_at_once group area start manner Plain last back ks addresses key told is = let none : None ≡ Some (inputs.Client area start group) = is in absurd (cc none)
-client_at_once group area start manner (Of n) last back ks addresses key told is = let none : None ≡ Some (inputs.Client area start group) = is in absurd (cc none)
-client_at_once group area start manner Known last back ks addresses key told is = let none : None ≡ Some (inputs.Client area start group) = is in absurd (cc none)
+-- the request of a client that takes no input is answered by the node itself, or by a condition
+client_at_once : (group : List ℕ) (area start : ℕ) (manner : Manner) (hint : Hint) (what : Selection) (last : Bool) (back : Option Message) (ks : List Group) (addresses : List (Option (List ℕ))) (key : Option (List ℕ)) (told : List ℕ)
+    → IsInputOf (asked_of (asks.Client group area start manner) hint what) None
+    → IsGivable (content_in (asks.Client group area start manner) (response_for (asked_of (asks.Client group area start manner) hint what) last answers.Ok back (holding_for (asks.Client group area start manner) ks) addresses key told).content) ks
+client_at_once group area start manner Here what last back ks addresses key told is = here_there answers.Ok ks group area start manner what last addresses
+client_at_once group area start manner Plain what last back ks addresses key told is = condition_there answers.Ok ks group area start manner Plain what last addresses (inputs.Client area start group) is
+client_at_once group area start manner (Of n) what last back ks addresses key told is = condition_there answers.Ok ks group area start manner (Of n) what last addresses (inputs.Client area start group) is
+client_at_once group area start manner Known what last back ks addresses key told is = condition_there answers.Ok ks group area start manner Known what last addresses (inputs.Client area start group) is
 
-at_once : (operation : Operation) (hint : Hint) (last : Bool) (back : Option Message) (ks : List Group) (addresses : List (Option (List ℕ))) (key : Option (List ℕ)) (told : List ℕ) → IsInputOf operation hint None
-    → IsGivable (content_in operation (response_for (record { operation = operation; hint = hint }) last answers.Ok back (holding_for operation ks) addresses key told).content) ks
-at_once asks.Message hint last back ks addresses key told is = tt
-at_once (asks.Publish group at) hint last back ks addresses key told is = tt
-at_once (asks.Seal group at) hint last back ks addresses key told is = tt
-at_once (asks.Client group area start manner) hint last back ks addresses key told is = client_at_once group area start manner hint last back ks addresses key told is
-at_once (asks.Probe manner) hint last back ks addresses key told is = tt
-at_once (asks.Report report manner) hint last back ks addresses key told is = tt
+at_once : (operation : Operation) (hint : Hint) (what : Selection) (last : Bool) (back : Option Message) (ks : List Group) (addresses : List (Option (List ℕ))) (key : Option (List ℕ)) (told : List ℕ) → IsInputOf (asked_of operation hint what) None
+    → IsGivable (content_in operation (response_for (asked_of operation hint what) last answers.Ok back (holding_for operation ks) addresses key told).content) ks
+at_once asks.Message hint what last back ks addresses key told is = tt
+at_once (asks.Publish group at) hint what last back ks addresses key told is = tt
+at_once (asks.Seal group at) hint what last back ks addresses key told is = tt
+at_once (asks.Client group area start manner) hint what last back ks addresses key told is = client_at_once group area start manner hint what last back ks addresses key told is
+at_once (asks.Probe manner) hint what last back ks addresses key told is = tt
+at_once (asks.Report report manner) hint what last back ks addresses key told is = tt
 
-client_by_step : (group : List ℕ) (area start : ℕ) (manner : Manner) (hint : Hint) (last : Bool) (i : Input) (back : Option Message) (n : Node) (addresses : List (Option (List ℕ))) (key : Option (List ℕ)) (told : List ℕ)
-    → Some i ≡ Some (inputs.Client area start group)
-    → IsGivable (content_in (asks.Client group area start manner) (response_for (record { operation = asks.Client group area start manner; hint = hint }) last (step n i).answer back (holding_for (asks.Client group area start manner) (step n i).node.groups) addresses key told).content) (step n i).node.groups
-client_by_step group area start manner hint last i back n addresses key told is =
-    let same : i ≡ inputs.Client area start group = cc in
-    subst (λ (j : Input). IsGivable (content_in (asks.Client group area start manner) (response_for (record { operation = asks.Client group area start manner; hint = hint }) last (step n j).answer back (holding_for (asks.Client group area start manner) (step n j).node.groups) addresses key told).content) (step n j).node.groups)
-    (sym same) (step_there n group area start manner hint last addresses)
+client_by_step : (group : List ℕ) (area start : ℕ) (manner : Manner) (hint : Hint) (what : Selection) (last : Bool) (i : Input) (back : Option Message) (n : Node) (addresses : List (Option (List ℕ))) (key : Option (List ℕ)) (told : List ℕ)
+    → i ≡ inputs.Client area start group
+    → IsGivable (content_in (asks.Client group area start manner) (response_for (asked_of (asks.Client group area start manner) hint what) last (step n i).answer back (holding_for (asks.Client group area start manner) (step n i).node.groups) addresses key told).content) (step n i).node.groups
+client_by_step group area start manner hint what last i back n addresses key told same =
+    subst (λ (j : Input). IsGivable (content_in (asks.Client group area start manner) (response_for (asked_of (asks.Client group area start manner) hint what) last (step n j).answer back (holding_for (asks.Client group area start manner) (step n j).node.groups) addresses key told).content) (step n j).node.groups)
+    (sym same) (step_there n group area start manner hint what last addresses)
 
-client_step : (group : List ℕ) (area start : ℕ) (manner : Manner) (hint : Hint) (last : Bool) (i : Input) (back : Option Message) (n : Node) (addresses : List (Option (List ℕ))) (key : Option (List ℕ)) (told : List ℕ)
-    → IsInputOf (asks.Client group area start manner) hint (Some i)
-    → IsGivable (content_in (asks.Client group area start manner) (response_for (record { operation = asks.Client group area start manner; hint = hint }) last (step n i).answer back (holding_for (asks.Client group area start manner) (step n i).node.groups) addresses key told).content) (step n i).node.groups
-client_step group area start manner Here last i back n addresses key told is = let none : Some i ≡ None = is in absurd (cc none)
-client_step group area start manner Plain last i back n addresses key told is = client_by_step group area start manner Plain last i back n addresses key told is
-client_step group area start manner (Of m) last i back n addresses key told is = client_by_step group area start manner (Of m) last i back n addresses key told is
-client_step group area start manner Known last i back n addresses key told is = client_by_step group area start manner Known last i back n addresses key told is
+-- the input that is taken is the one that the client asks
+input_chosen : (what : Selection) (i j : Input) → Some i ≡ input_by what (Some j) → i ≡ j
+input_chosen selections.Whole i j is = cc
+input_chosen (selections.Part start size) i j is = cc
+input_chosen selections.NotModified i j is = let none : Some i ≡ None = is in absurd (cc none)
+input_chosen selections.PreconditionFailed i j is = let none : Some i ≡ None = is in absurd (cc none)
+input_chosen selections.Unsatisfiable i j is = cc
 
-by_step : (operation : Operation) (hint : Hint) (last : Bool) (i : Input) (back : Option Message) (n : Node) (addresses : List (Option (List ℕ))) (key : Option (List ℕ)) (told : List ℕ) → IsInputOf operation hint (Some i)
-    → IsGivable (content_in operation (response_for (record { operation = operation; hint = hint }) last (step n i).answer back (holding_for operation (step n i).node.groups) addresses key told).content) (step n i).node.groups
-by_step asks.Message hint last i back n addresses key told is = tt
-by_step (asks.Publish group at) hint last i back n addresses key told is = tt
-by_step (asks.Seal group at) hint last i back n addresses key told is = tt
-by_step (asks.Client group area start manner) hint last i back n addresses key told is = client_step group area start manner hint last i back n addresses key told is
-by_step (asks.Probe manner) hint last i back n addresses key told is = tt
-by_step (asks.Report report manner) hint last i back n addresses key told is = tt
+no_input : (what : Selection) (i : Input) → Some i ≡ input_by what None → ⊥
+no_input selections.Whole i is = let none : Some i ≡ None = is in absurd (cc none)
+no_input (selections.Part start size) i is = let none : Some i ≡ None = is in absurd (cc none)
+no_input selections.NotModified i is = let none : Some i ≡ None = is in absurd (cc none)
+no_input selections.PreconditionFailed i is = let none : Some i ≡ None = is in absurd (cc none)
+no_input selections.Unsatisfiable i is = let none : Some i ≡ None = is in absurd (cc none)
+
+client_step : (group : List ℕ) (area start : ℕ) (manner : Manner) (hint : Hint) (what : Selection) (last : Bool) (i : Input) (back : Option Message) (n : Node) (addresses : List (Option (List ℕ))) (key : Option (List ℕ)) (told : List ℕ)
+    → IsInputOf (asked_of (asks.Client group area start manner) hint what) (Some i)
+    → IsGivable (content_in (asks.Client group area start manner) (response_for (asked_of (asks.Client group area start manner) hint what) last (step n i).answer back (holding_for (asks.Client group area start manner) (step n i).node.groups) addresses key told).content) (step n i).node.groups
+client_step group area start manner Here what last i back n addresses key told is = absurd (no_input what i is)
+client_step group area start manner Plain what last i back n addresses key told is = client_by_step group area start manner Plain what last i back n addresses key told (input_chosen what i (inputs.Client area start group) is)
+client_step group area start manner (Of m) what last i back n addresses key told is = client_by_step group area start manner (Of m) what last i back n addresses key told (input_chosen what i (inputs.Client area start group) is)
+client_step group area start manner Known what last i back n addresses key told is = client_by_step group area start manner Known what last i back n addresses key told (input_chosen what i (inputs.Client area start group) is)
+
+by_step : (operation : Operation) (hint : Hint) (what : Selection) (last : Bool) (i : Input) (back : Option Message) (n : Node) (addresses : List (Option (List ℕ))) (key : Option (List ℕ)) (told : List ℕ) → IsInputOf (asked_of operation hint what) (Some i)
+    → IsGivable (content_in operation (response_for (asked_of operation hint what) last (step n i).answer back (holding_for operation (step n i).node.groups) addresses key told).content) (step n i).node.groups
+by_step asks.Message hint what last i back n addresses key told is = tt
+by_step (asks.Publish group at) hint what last i back n addresses key told is = tt
+by_step (asks.Seal group at) hint what last i back n addresses key told is = tt
+by_step (asks.Client group area start manner) hint what last i back n addresses key told is = client_step group area start manner hint what last i back n addresses key told is
+by_step (asks.Probe manner) hint what last i back n addresses key told is = tt
+by_step (asks.Report report manner) hint what last i back n addresses key told is = tt
 
 -- a request is answered by its step, or at once
 pub responding : (s : Setting) (made : List Call) (r : Pending) (input : Option Input) (now : ℕ) (a : Running) → MayAnswer r.waited r.connection made a.works
-    → IsInputOf r.asked.operation r.asked.hint input → IsSettled made a.works → IsOrderly s made (responds r input now s a) a
+    → IsInputOf r.asked input → IsSettled made a.works → IsOrderly s made (responds r input now s a) a
 responding s made r None now a may is settled =
     replies_request s made r (response_now r answers.Ok None s a) now a may
-    (at_once r.asked.operation r.asked.hint r.last None a.node.groups a.config.addresses (key_in a) (report_for r.asked.operation s a) is) settled
+    (at_once r.asked.operation r.asked.hint r.asked.selection r.last None a.node.groups a.config.addresses (key_in a) (report_for r.asked.operation s a) is) settled
 responding s made r (Some i) now a may is settled =
     let ds : List Deed = replies r now (step a.node i).answer (back_to (sender_of i) (step a.node i).sends) s (after (Accepts i) a) in
     quiet_behind s made (Says (told_ahead s.log s.me i)) (Accepts i ∷ Says (told_of s.log a.node i) ∷ ds) a tt settled
@@ -222,19 +247,40 @@ responding s made r (Some i) now a may is settled =
     (λ behind. replies_request s (((made ++ []) ++ []) ++ []) r
     (response_now r (step a.node i).answer (back_to (sender_of i) (step a.node i).sends) s (after (Accepts i) a)) now (after (Accepts i) a)
     (subst (λ (cs : List Call). MayAnswer r.waited r.connection cs a.works) (sym (append-nil ((made ++ []) ++ []) ∙ append-nil (made ++ []) ∙ append-nil made)) may)
-    (by_step r.asked.operation r.asked.hint r.last i (back_to (sender_of i) (step a.node i).sends) a.node a.config.addresses (key_in a) (report_for r.asked.operation s (after (Accepts i) a)) is) behind)))
+    (by_step r.asked.operation r.asked.hint r.asked.selection r.last i (back_to (sender_of i) (step a.node i).sends) a.node a.config.addresses (key_in a) (report_for r.asked.operation s (after (Accepts i) a)) is) behind)))
 
-taking_on : (s : Setting) (made : List Call) (c : ℕ) (request : Request) (now : ℕ) (a : Running) → phase_on c made ≡ Awaiting → IsInputOf request.asked.operation request.asked.hint request.input → IsSettled made a.works
-    → IsOrderly s made (takes_on c request now s a) a
-taking_on s made c request now a may is settled = by_condition (unmet request.asked.operation a.node.control.me (shelf a.node.groups))
+answering_or_waiting : (s : Setting) (made : List Call) (c : ℕ) (request : Request) (now : ℕ) (a : Running) → phase_on c made ≡ Awaiting → IsInputOf request.asked request.input → IsSettled made a.works
+    → IsOrderly s made (answers_or_waits c request now s a) a
+answering_or_waiting s made c request now a may is settled = by_test (has_to_wait request a.node)
   where
     by_test : (b : Bool) → IsOrderly s made (if b then Waits (waiting c request now) ∷ [] else responds (pending c request (is_some request.input) false) request.input now s a) a
     by_test true = waits s made (waiting c request now) a may settled
     by_test false = responding s made (pending c request (is_some request.input) false) request.input now a may is settled
 
+with_whole : (asked : Asked) → asked.selection ≡ selections.Whole → asked ≡ asked_of asked.operation asked.hint selections.Whole
+with_whole asked whole = ap (λ (s : Selection). asked_of asked.operation asked.hint s) whole
+
+-- a request has its client's input once it is settled what it selects, unless a condition answers it
+still_for : (operation : Operation) (hint : Hint) (what : Selection) (input : Option Input) → IsInputOf (asked_of operation hint selections.Whole) input → IsInputOf (asked_of operation hint what) (input_by what input)
+still_for asks.Message hint what input is = tt
+still_for (asks.Publish group at) hint what input is = tt
+still_for (asks.Seal group at) hint what input is = tt
+still_for (asks.Client group area start manner) hint what input is = ap (input_by what) is
+still_for (asks.Probe manner) hint what input is = tt
+still_for (asks.Report report manner) hint what input is = tt
+
+still_input : (request : Request) (h : Holding) → IsUnsettled request.asked request.input → IsInputOf (choices.settled request h).asked (choices.settled request h).input
+still_input request h is =
+    still_for request.asked.operation request.asked.hint (selection_of request.asked.operation request.asked.hint h request.line request.selectors) request.input
+    (subst (λ (x : Asked). IsInputOf x request.input) (with_whole request.asked is.whole) is.own)
+
+taking_on : (s : Setting) (made : List Call) (c : ℕ) (request : Request) (now : ℕ) (a : Running) → phase_on c made ≡ Awaiting → IsUnsettled request.asked request.input → IsSettled made a.works
+    → IsOrderly s made (takes_on c request now s a) a
+taking_on s made c request now a may is settled = by_condition (unmet request a.node.control.me (shelf a.node.groups))
+  where
     by_condition : (why : Option Refusal) → IsOrderly s made (refuses_or why c request now s a) a
     by_condition (Some why) = refuses_request s made c request.count why a may settled
-    by_condition None = by_test (has_to_wait request a.node)
+    by_condition None = answering_or_waiting s made c (settled_at a.node.groups request) now a may (still_input request (holding_for request.asked.operation a.node.groups) is) settled
 
 pub obeying : (s : Setting) (made : List Call) (c count : ℕ) (v : Verdict) (now : ℕ) (a : Running) → phase_on c made ≡ Awaiting → HasInput v → IsSettled made a.works → IsOrderly s made (obeys c count v now s a) a
 obeying s made c count verdicts.Wait now a may is settled = orderly_none s made a settled
@@ -245,7 +291,7 @@ obeying s made c count (verdicts.Ask request) now a may is settled = taking_on s
 
 -- the input of a verdict
 
-answered_input : (head : Head) (request : Request) (r : Result (Option Input) Refused) → IfOk r (λ (i : Option Input). IsInputOf request.asked.operation request.asked.hint (input_for request.asked.hint i)) → HasInput (answered head request r)
+answered_input : (head : Head) (request : Request) (r : Result (Option Input) Refused) → IfOk r (λ (i : Option Input). IsUnsettled request.asked (input_for request.asked.hint i)) → HasInput (answered head request r)
 answered_input head request (Ok input) is = is
 answered_input head request (Err why) is = tt
 
@@ -253,7 +299,7 @@ any_input : (r : Result (Option Input) Refused) → IfOk r (λ (i : Option Input
 any_input (Ok input) = tt
 any_input (Err why) = tt
 
-asked_input : (nodes me : ℕ) (operation : Operation) (hint : Hint) (body : List ℕ) → IfOk (input_asked nodes me operation body) (λ (i : Option Input). IsInputOf operation hint (input_for hint i))
+asked_input : (nodes me : ℕ) (operation : Operation) (hint : Hint) (body : List ℕ) → IfOk (input_asked nodes me operation body) (λ (i : Option Input). IsInputOf (asked_of operation hint selections.Whole) (input_for hint i))
 asked_input nodes me asks.Message hint body = any_input (input_asked nodes me asks.Message body)
 asked_input nodes me (asks.Publish group at) hint body = tt
 asked_input nodes me (asks.Seal group at) hint body = any_input (input_asked nodes me (asks.Seal group at) body)
@@ -261,19 +307,55 @@ asked_input nodes me (asks.Client group area start manner) hint body = refl
 asked_input nodes me (asks.Probe manner) hint body = tt
 asked_input nodes me (asks.Report report manner) hint body = tt
 
+unsettled_input : (asked : Asked) (r : Result (Option Input) Refused) → asked.selection ≡ selections.Whole
+    → IfOk r (λ (i : Option Input). IsInputOf (asked_of asked.operation asked.hint selections.Whole) (input_for asked.hint i)) → IfOk r (λ (i : Option Input). IsUnsettled asked (input_for asked.hint i))
+unsettled_input asked (Ok i) whole is = record { whole = whole; own = subst (λ (x : Asked). IsInputOf x (input_for asked.hint i)) (sym (with_whole asked whole)) is }
+unsettled_input asked (Err why) whole is = tt
+
+-- nothing is selected by the head of a request alone
+nothing_selected : (operation : Result Operation Refused) (hint : Result Hint Refused) → IfOk (with_hint operation hint) (λ (said : Asked). said.selection ≡ selections.Whole)
+nothing_selected (Ok asks.Message) hint = refl
+nothing_selected (Ok (asks.Publish group at)) hint = refl
+nothing_selected (Ok (asks.Seal group at)) hint = refl
+nothing_selected (Ok (asks.Client group area start manner)) (Ok hint) = refl
+nothing_selected (Ok (asks.Client group area start manner)) (Err why) = tt
+nothing_selected (Ok (asks.Probe manner)) hint = refl
+nothing_selected (Ok (asks.Report report manner)) (Ok hint) = refl
+nothing_selected (Ok (asks.Report report manner)) (Err why) = tt
+nothing_selected (Err refusals.Source) hint = tt
+nothing_selected (Err refusals.Ended) hint = tt
+nothing_selected (Err refusals.Head) hint = tt
+nothing_selected (Err refusals.HeadLong) hint = tt
+nothing_selected (Err refusals.Fields) hint = tt
+nothing_selected (Err refusals.Host) hint = tt
+nothing_selected (Err (refusals.Coding both)) hint = tt
+nothing_selected (Err (refusals.Length missing)) hint = tt
+nothing_selected (Err refusals.BodyLong) hint = tt
+nothing_selected (Err refusals.Method) hint = tt
+nothing_selected (Err refusals.Path) hint = tt
+nothing_selected (Err refusals.Query) hint = tt
+nothing_selected (Err (refusals.Denied rule needs_token)) (Ok hint) = tt
+nothing_selected (Err (refusals.Denied rule needs_token)) (Err why) = tt
+nothing_selected (Err refusals.Mac) hint = tt
+nothing_selected (Err refusals.Message) hint = tt
+nothing_selected (Err refusals.Body) hint = tt
+nothing_selected (Err (refusals.At length)) hint = tt
+
 unfinished_input : (coming : Coming) (none : Bool) → HasInput (unfinished coming none)
 unfinished_input Open none = tt
 unfinished_input Ended true = tt
 unfinished_input Ended false = tt
 unfinished_input Failed none = tt
 
-body_input : (t : NodeTerms) (x : Arrival) (came : ℕ) (head : Head) (rest : List ℕ) (said : Asked) → HasInput (with_body t x came head rest said)
-body_input t x came head rest said = by_permit (awaits_continue head && not x.permitted)
+body_input : (t : NodeTerms) (x : Arrival) (came : ℕ) (head : Head) (rest : List ℕ) (said : Asked) → said.selection ≡ selections.Whole → HasInput (with_body t x came head rest said)
+body_input t x came head rest said none = by_permit (awaits_continue head && not x.permitted)
   where
     request : Request
     request = record {
       count = came - length rest + head.length;
       asked = said;
+      line = line_of head;
+      selectors = selectors_for said.operation head.selectors;
       input = None;
       last = is_last head x.number;
     }
@@ -281,9 +363,11 @@ body_input t x came head rest said = by_permit (awaits_continue head && not x.pe
     body : List ℕ
     body = take head.length rest
 
-    by_mac : (b : Bool) → HasInput (if b then refuse (asker_of head) refusals.Mac else answered head request (input_asked t.nodes t.me said.operation body))
+    by_mac : (b : Bool) → HasInput (if b then refuse (asker_of head) (kept_after request.last request.count) refusals.Mac else answered head request (input_asked t.nodes t.me said.operation body))
     by_mac true = tt
-    by_mac false = answered_input head request (input_asked t.nodes t.me said.operation body) (asked_input t.nodes t.me said.operation said.hint body)
+    by_mac false =
+        answered_input head request (input_asked t.nodes t.me said.operation body)
+        (unsettled_input said (input_asked t.nodes t.me said.operation body) none (asked_input t.nodes t.me said.operation said.hint body))
 
     by_length : (b : Bool) → HasInput (if b then unfinished x.coming false else whole t head request body)
     by_length true = unfinished_input x.coming false
@@ -293,9 +377,9 @@ body_input t x came head rest said = by_permit (awaits_continue head && not x.pe
     by_permit true = tt
     by_permit false = by_length (nat_lt (length rest) head.length)
 
-routed_input : (t : NodeTerms) (x : Arrival) (came : ℕ) (head : Head) (rest : List ℕ) (r : Result Asked Refused) → HasInput (routed t x came head rest r)
-routed_input t x came head rest (Ok said) = body_input t x came head rest said
-routed_input t x came head rest (Err why) = tt
+routed_input : (t : NodeTerms) (x : Arrival) (came : ℕ) (head : Head) (rest : List ℕ) (r : Result Asked Refused) → IfOk r (λ (said : Asked). said.selection ≡ selections.Whole) → HasInput (routed t x came head rest r)
+routed_input t x came head rest (Ok said) none = body_input t x came head rest said none
+routed_input t x came head rest (Err why) none = tt
 
 unread_input : (coming : Coming) (none : Bool) (asker : Asker) (fault : Option RouteFault) → HasInput (unread coming none asker fault)
 unread_input coming none asker None = unfinished_input coming none
@@ -303,7 +387,7 @@ unread_input coming none asker (Some (faults.Refused why)) = tt
 unread_input coming none asker (Some faults.Memory) = tt
 
 verdict_input : (t : NodeTerms) (x : Arrival) (bytes rest : List ℕ) (answer : Result Head HttpFault) → HasInput (verdict_for t x bytes rest answer)
-verdict_input t x bytes rest (Ok head) = routed_input t x (length bytes) head rest (asked_with_hint head t.rules)
+verdict_input t x bytes rest (Ok head) = routed_input t x (length bytes) head rest (asked_with_hint head t.rules) (nothing_selected (routes.asked head t.rules) (hint_for head.method head.query))
 verdict_input t x bytes rest (Err fault) = unread_input x.coming (is_none bytes) (asker_in (taken bytes rest)) (fault_met fault)
 
 has_input : (t : NodeTerms) (x : Arrival) (bytes : List ℕ) (v : Verdict) → IsVerdict t x bytes v → HasInput v
@@ -394,10 +478,6 @@ awaited Whole b c is = absurd (false≢true is)
 awaited Broken b c is = absurd (false≢true is)
 awaited Gone b c is = absurd (false≢true is)
 
-phase_if : (b : Bool) (x st : Standing) → x.phase ≡ st.phase → (if b then x else st).phase ≡ st.phase
-phase_if true x st same = same
-phase_if false x st same = refl
-
 -- the calls after an event and a reading of the clock
 abbrev seeing : List Call → LinkEvent → List ℕ → ℕ → List Call
 seeing made event bytes now = made ++ (acts.Next event bytes ∷ acts.Millis now ∷ [])
@@ -427,9 +507,8 @@ seen_ready : (t : NodeTerms) (lent : List ℕ) (errand : Option Errand) (event :
     → IsTrue (may event made) → IsSettled made ws → IsReadyFor came (seeing made event bytes now) ws
 seen_ready t lent errand (events.Request x) came made bytes now ws means could settled =
     subst (λ (y : Came). IsReadyFor y (seeing made (events.Request x) bytes now) ws) (sym (means.2)) (
-      settled_by made (acts.Next (events.Request x) bytes ∷ acts.Millis now ∷ []) ws (λ c. fits_if (x.connection == c) (after_request (standing_of c made)) (standing_of c made) (works_on c ws) refl (settled c)),
+      settled_by made (acts.Next (events.Request x) bytes ∷ acts.Millis now ∷ []) ws (λ c. settled c),
       seen_phase x.connection made (events.Request x) bytes now
-          ∙ phase_if (x.connection == x.connection) (after_request (standing_of x.connection made)) (standing_of x.connection made) refl
           ∙ awaited (phase_on x.connection made) (x.number == (standing_of x.connection made).number) (if x.permitted then (standing_of x.connection made).fed else not (standing_of x.connection made).fed) could,
       has_input t x lent (means.0) (means.1),
     )
@@ -466,13 +545,13 @@ taking_next s made pace probing t a told settled =
     (dealing s (seeing made t.event t.bytes t.now) pace probing t.came t.now t.median t.started t.seconds behind
     (seen_ready told.terms told.lent told.errand t.event t.came made t.bytes t.now a.works told.means told.could settled))))
 
-waited_input : (operation : Operation) (hint : Hint) → IsInputOf operation hint (client_input operation hint)
-waited_input asks.Message hint = tt
-waited_input (asks.Publish group at) hint = tt
-waited_input (asks.Seal group at) hint = tt
-waited_input (asks.Client group area start manner) hint = refl
-waited_input (asks.Probe manner) hint = tt
-waited_input (asks.Report report manner) hint = tt
+waited_input : (operation : Operation) (hint : Hint) (chosen : Selection) → IsInputOf (asked_of operation hint chosen) (client_input (asked_of operation hint chosen))
+waited_input asks.Message hint chosen = tt
+waited_input (asks.Publish group at) hint chosen = tt
+waited_input (asks.Seal group at) hint chosen = tt
+waited_input (asks.Client group area start manner) hint chosen = refl
+waited_input (asks.Probe manner) hint chosen = tt
+waited_input (asks.Report report manner) hint chosen = tt
 
 taking_up : (s : Setting) (made : List Call) (place : ℕ) (now : ℕ) (a : Running) (o : Option Work) → slice_get a.works place ≡ o → IsSettled made a.works → IsOrderly s made (takes_up o now s a) a
 taking_up s made place now a None is settled = orderly_none s made a settled
@@ -482,8 +561,8 @@ taking_up s made place now a (Some (works.Aside p)) is settled =
     going_on s made p now a (record { phase = here.0; works = inr (here.1) }) settled
 taking_up s made place now a (Some (works.Waits w)) is settled =
     let here = alone made a.works place (works.Waits w) is settled in
-    responding s made (pending w.connection w.request (is_some (client_input w.request.asked.operation w.request.asked.hint)) true) (client_input w.request.asked.operation w.request.asked.hint) now a
-    (here.0, w, here.1) (waited_input w.request.asked.operation w.request.asked.hint) settled
+    responding s made (pending w.connection w.request (is_some (client_input w.request.asked)) true) (client_input w.request.asked) now a
+    (here.0, w, here.1) (waited_input w.request.asked.operation w.request.asked.hint w.request.asked.selection) settled
 
 taking_due : (s : Setting) (made : List Call) (pace : Pace) (place before seconds : ℕ) (a : Running) → IsSettled made a.works → IsOrderly s made (takes_due pace (slice_get a.works place) before seconds s a) a
 taking_due s made pace place before seconds a settled =

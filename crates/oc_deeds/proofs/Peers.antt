@@ -31,9 +31,9 @@ rotation_of ids = record { coming = ids }
 pub peers_read : {A B : Type 0} (f : A → B) (me : ℕ) (places : List (Option A)) (shown : List (Option B)) → shown ≡ map (option_map f) places → peers_of me places ≡ peers_of me shown
 peers_read f me places shown is = sym (same_peers f me 1 places) ∙ ap (λ (ps : List (Option _)). peers_of me ps) (sym is)
 
--- what is probed with other peers of as many nodes is made for them
-pub made_rerouted : {A : Type 0} (me : ℕ) (places : List (Option A)) (p : Probing) (r : RotationView) → r ≡ record { coming = peers_of me places } → IsMadeFor (length places) p → IsMadeFor (length places) (record p { rotation = r })
-made_rerouted me places p r is made = record {
+-- what is probed with other peers, of no more places than there are nodes, is made for these
+pub made_rerouted : {A : Type 0} (me nodes : ℕ) (places : List (Option A)) (p : Probing) (r : RotationView) → length places ≤ nodes → r ≡ record { coming = peers_of me places } → IsMadeFor nodes p → IsMadeFor nodes (record p { rotation = r })
+made_rerouted me nodes places p r within is made = record {
   rates = made.rates;
-  peers = subst (λ (x : RotationView). AllByRecursion (IsNode (length places)) x.coming) (sym is) (all_peers me (length places) 1 places (omega arith) (omega arith));
+  peers = subst (λ (x : RotationView). AllByRecursion (IsNode nodes) x.coming) (sym is) (all_peers me nodes 1 places (omega arith) (omega (arith, within)));
 }

@@ -21,7 +21,7 @@ use Rattle.oc_routes.specs.declared.waiting.Prospect.TheVariants as prospects
 use Rattle.oc_routes.specs.Inputs.{input_line}
 use Rattle.oc_routes.specs.declared.verdict.Refusal.{Refusal}
 use Rattle.oc_routes.specs.declared.tally.MessageFault.{MessageFault}
-use Rattle.oc_deeds.specs.Asks.{has_to_wait, obeys, refuses_or, replies, responds, takes_on, takes_up, waiting}
+use Rattle.oc_deeds.specs.Asks.{answers_or_waits, has_to_wait, obeys, refuses_or, replies, responds, settled_at, takes_on, takes_up, waiting}
 use Rattle.oc_deeds.specs.Brief.{told_of}
 use Rattle.oc_deeds.specs.Choices.{due_index, has_room, next_to_dial, prospect_of, wait_for}
 use Rattle.oc_deeds.specs.Deeds.{Accepts, BreaksOff, Deed, Dials, Drops, Gives, Keeps, LaysAside, Looks, Notes, Permits, Probes, Reads, Refuses, Rejects, Replies, Rereads, Running, Says, Sees, Setting, Takes, Tells, Waits, after, after_all, back_to, inputs_of, line, lines, sender_of, taken_line, with_input}
@@ -312,16 +312,19 @@ module _ (s : Setting) (recorded : s.log ≡ logs.Record) where
   leads_responds r None now a = (None, refl, refl)
   leads_responds r (Some i) now a = (Some i, ahead i, (None, (refl, refl), (None, behind i a.node, (None, refl, refl))))
 
-  leads_on : (c : ℕ) (request : Request) (now : ℕ) (a : Running) → Whole (takes_on c request now s a)
-  leads_on c request now a = by_condition (unmet request.asked.operation a.node.control.me (shelf a.node.groups))
+  leads_or_waits : (c : ℕ) (request : Request) (now : ℕ) (a : Running) → Whole (answers_or_waits c request now s a)
+  leads_or_waits c request now a = by_test (has_to_wait request a.node)
     where
       by_test : (b : Bool) → Whole (if b then Waits (waiting c request now) ∷ [] else responds (pending c request (is_some request.input) false) request.input now s a)
       by_test true = (None, refl, refl)
       by_test false = leads_responds (pending c request (is_some request.input) false) request.input now a
 
+  leads_on : (c : ℕ) (request : Request) (now : ℕ) (a : Running) → Whole (takes_on c request now s a)
+  leads_on c request now a = by_condition (unmet request a.node.control.me (shelf a.node.groups))
+    where
       by_condition : (why : Option Refusal) → Whole (refuses_or why c request now s a)
       by_condition (Some why) = (None, refl, refl)
-      by_condition None = by_test (has_to_wait request a.node)
+      by_condition None = leads_or_waits c (settled_at a.node.groups request) now a
 
   leads_obeys : (c count : ℕ) (v : Verdict) (now : ℕ) (a : Running) → Whole (obeys c count v now s a)
   leads_obeys c count verdicts.Wait now a = refl
@@ -351,7 +354,7 @@ module _ (s : Setting) (recorded : s.log ≡ logs.Record) where
   leads_up (Some (works.Content p)) now a = refl
   leads_up (Some (works.Aside p)) now a = leads_moves p now (prospect_of p (shelf a.node.groups) now)
   leads_up (Some (works.Waits w)) now a =
-      leads_responds (pending w.connection w.request (is_some (client_input w.request.asked.operation w.request.asked.hint)) true) (client_input w.request.asked.operation w.request.asked.hint) now a
+      leads_responds (pending w.connection w.request (is_some (client_input w.request.asked)) true) (client_input w.request.asked) now a
 
   leads_due : (pace : Pace) (o : Option Work) (before seconds : ℕ) (a : Running) → Whole (takes_due pace o before seconds s a)
   leads_due pace o before seconds a =
@@ -378,7 +381,7 @@ module _ (s : Setting) (recorded : s.log ≡ logs.Record) where
   leads_by : (r : Reread) (a : Running) → Whole (goes_by r s a)
   leads_by rereads.Nothing a = refl
   leads_by (rereads.Unfit why) a = (None, refl, refl)
-  leads_by (rereads.Config new) a = leads_settled (fitting s.me a.config new) a.config a
+  leads_by (rereads.Config new) a = leads_settled (fitting s a.config new) a.config a
 
   leads_looks : (look : Look) (r : Reread) (a : Running) → Whole (looks_again look r s a)
   leads_looks look r a = (None, refl, leads_by r (after (Looks look) a))

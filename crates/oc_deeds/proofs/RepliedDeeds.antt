@@ -1,12 +1,12 @@
 -- Deed by deed, each connection is given the replies to its requests.
 use Rattle.std.proofs.Common.{◌≡◌, ◌⊎◌, ℕ, Bool, true, false, Option, None, Some, List, [], ◌∷◌, ◌++◌, drop, inl, inr, refl, sym, ap, subst, ◌∙◌}
-use Rattle.std.specs.Prelude.{◌==◌, if◌then◌else◌, length}
+use Rattle.std.specs.Prelude.{◌==◌, if◌then◌else◌, is_some, length, unwrap_or}
 use Rattle.std.proofs.lemmas.Bool.{eqb-true}
 use Rattle.std.proofs.lemmas.List.{append_assoc, append-nil}
 use Rattle.oc_base.specs.declared.group.Group.{Group}
 use Rattle.oc_link.specs.Calls.{IsFront}
 use Rattle.oc_link.proofs.Stories.{given-then, stands-then}
-use Rattle.oc_link.specs.Stands.{after_loss, after_request, after_room, sees, stands_after, standing_of, untouched}
+use Rattle.oc_link.specs.Stands.{after_loss, after_room, sees, stands_after, standing_of, untouched}
 use Rattle.oc_link.specs.Traffic.{given}
 use Rattle.oc_link.specs.declared.call.Call.{Call}
 use Rattle.oc_link.specs.declared.call.Call.TheVariants as acts
@@ -48,7 +48,7 @@ seen_gone false st ws now later g w h = holds_still st.phase ws now now later g 
 -- an event gives nothing, and may tell that the connection is gone
 seen_holds : (c : ℕ) (e : LinkEvent) (st : Standing) (ws : List Work) (now later : List Group) (g w : List ℕ) → Holds st.phase ws now later g w
     → Holds (sees c e st).phase ws now later (g ++ []) (w ++ [])
-seen_holds c (events.Request x) st ws now later g w h = seen_still (x.connection == c) (after_request st) st ws now later g w refl h
+seen_holds c (events.Request x) st ws now later g w h = holds_still st.phase ws now now later g w (grows_none now) h
 seen_holds c (events.Room d) st ws now later g w h = seen_still (d == c) (after_room st) st ws now later g w refl h
 seen_holds c (events.Gone d loss) st ws now later g w h = seen_gone (d == c) st ws now later g w h
 seen_holds c (events.Reply d coming) st ws now later g w h = holds_still st.phase ws now now later g w (grows_none now) h
@@ -79,18 +79,18 @@ waits c x a made later g w may h = by_test (x.connection == c) refl
         (subst (λ (ws : List Work). Holds (phase_on c made) ws a.node.groups later (g ++ []) (w ++ [])) (sym (other_pushed c a.works (works.Waits x) apart))
         (holds_still (phase_on c made) (works_on c a.works) a.node.groups a.node.groups later g w (grows_none a.node.groups) h))
 
-refused_other : (c d count : ℕ) (text : Option (List ℕ)) (st : Standing) (ws : List Work) (now later : List Group) (g w : List ℕ) → (d == c) ≡ false → Holds st.phase ws now later g w
-    → Behind c (refuses d count text) [] st ws now later g w
-refused_other c d count None st ws now later g w apart h = rw apart (holds_still st.phase ws now now later g w (grows_none now) h)
-refused_other c d count (Some text) st ws now later g w apart h = rw apart (holds_still st.phase ws now now later g w (grows_none now) h)
+refused_other : (c d count : ℕ) (keep : Bool) (text : Option (List ℕ)) (st : Standing) (ws : List Work) (now later : List Group) (g w : List ℕ) → (d == c) ≡ false → Holds st.phase ws now later g w
+    → Behind c (refuses d count keep text) [] st ws now later g w
+refused_other c d count keep None st ws now later g w apart h = rw apart (holds_still st.phase ws now now later g w (grows_none now) h)
+refused_other c d count keep (Some text) st ws now later g w apart h = rw apart (holds_still st.phase ws now now later g w (grows_none now) h)
 
-refuses_request : (c d count : ℕ) (text : Option (List ℕ)) (a : Running) (made : List Call) (later : List Group) (g w : List ℕ) → phase_on d made ≡ Awaiting → Holds (phase_on c made) (works_on c a.works) a.node.groups later g w
-    → Behind c (refuses d count text) (if d == c then text_or_none text else []) (standing_of c made) (works_on c a.works) a.node.groups later g w
-refuses_request c d count text a made later g w may h = by_test (d == c) refl
+refuses_request : (c d count : ℕ) (keep : Bool) (text : Option (List ℕ)) (a : Running) (made : List Call) (later : List Group) (g w : List ℕ) → phase_on d made ≡ Awaiting → Holds (phase_on c made) (works_on c a.works) a.node.groups later g w
+    → Behind c (refuses d count keep text) (if d == c then text_or_none text else []) (standing_of c made) (works_on c a.works) a.node.groups later g w
+refuses_request c d count keep text a made later g w may h = by_test (d == c) refl
   where
-    by_test : (b : Bool) → (d == c) ≡ b → Behind c (refuses d count text) (if b then text_or_none text else []) (standing_of c made) (works_on c a.works) a.node.groups later g w
-    by_test true own = refused c d count text (works_on c a.works) a.node.groups later g w (standing_of c made) own (phase_here c d made Awaiting own may) h
-    by_test false apart = refused_other c d count text (standing_of c made) (works_on c a.works) a.node.groups later g w apart h
+    by_test : (b : Bool) → (d == c) ≡ b → Behind c (refuses d count keep text) (if b then text_or_none text else []) (standing_of c made) (works_on c a.works) a.node.groups later g w
+    by_test true own = refused c d count keep text (works_on c a.works) a.node.groups later g w (standing_of c made) own (phase_here c d made Awaiting own may) h
+    by_test false apart = refused_other c d count keep text (standing_of c made) (works_on c a.works) a.node.groups later g w apart h
 
 breaks : (c d : ℕ) (a : Running) (made : List Call) (later : List Group) (g w : List ℕ) → Holds (phase_on c made) (works_on c a.works) a.node.groups later g w
     → Behind c (acts.BreakOff d ∷ []) [] (standing_of c made) (works_on c (without_work d a.works)) a.node.groups later g w
@@ -268,7 +268,7 @@ done s (Notes why) c a made later g w grows may h = holds_still (phase_on c made
 done s (Permits d) c a made later g w grows may h = permits c d a made later g w may h
 done s (Waits x) c a made later g w grows may h = waits c x a made later g w may h
 done s (Replies r response t) c a made later g w grows may h = replies_request c r response t a made later g w grows (may.0) (may.1) h
-done s (Refuses d count refusal) c a made later g w grows may h = refuses_request c d count (refusal_text refusal) a made later g w may h
+done s (Refuses d count refusal) c a made later g w grows may h = refuses_request c d (unwrap_or refusal.kept count) (is_some refusal.kept) (refusal_text refusal) a made later g w may h
 done s (Rejects fault) c a made later g w grows may h = holds_still (phase_on c made) (works_on c a.works) a.node.groups a.node.groups later g w (grows_none a.node.groups) h
 done s (BreaksOff d) c a made later g w grows may h = breaks c d a made later g w h
 done s (Gives p t) c a made later g w grows may h = gives c p t a made later g w grows may h

@@ -11,7 +11,7 @@ use Rattle.oc_link.specs.Traffic.{given}
 use Rattle.oc_link.specs.declared.call.Call.{Call}
 use Rattle.oc_link.specs.declared.call.Call.TheVariants as acts
 use Rattle.oc_link.specs.declared.phase.Phase.{Phase}
-use Rattle.oc_link.specs.declared.phase.Phase.TheVariants.{Awaiting, Answering}
+use Rattle.oc_link.specs.declared.phase.Phase.TheVariants.{Awaiting, Answering, Whole}
 use Rattle.oc_link.specs.declared.phase.Standing.{Standing}
 use Rattle.oc_routes.specs.Contents.{rest_after, owed, piece_of}
 use Rattle.oc_routes.specs.declared.content.UnderWay.{UnderWay}
@@ -57,14 +57,19 @@ waiting c a x now later g w st own phase h =
       left = append-nil w ∙ held.1 ∙ sym (append-nil g) ∙ sym (append-nil (g ++ []));
     }
 
-pub refused : (c d count : ℕ) (text : Option (List ℕ)) (ws : List Work) (now later : List Group) (g w : List ℕ) (st : Standing) → (d == c) ≡ true → st.phase ≡ Awaiting → Holds st.phase ws now later g w
-    → Holds (stands_after c (refuses d count text) st).phase ws now later (g ++ given c (refuses d count text)) (w ++ text_or_none text)
-refused c d count None ws now later g w st own phase h =
+-- the connection of a refusal that was given whole ends, or its next request is awaited
+refused_end : (keep : Bool) (ws : List Work) (now later : List Group) (g w : List ℕ) → ws ≡ [] → w ≡ g → Holds (if keep then Awaiting else Whole) ws now later g w
+refused_end true ws now later g w none is = (none, is)
+refused_end false ws now later g w none is = is
+
+pub refused : (c d count : ℕ) (keep : Bool) (text : Option (List ℕ)) (ws : List Work) (now later : List Group) (g w : List ℕ) (st : Standing) → (d == c) ≡ true → st.phase ≡ Awaiting → Holds st.phase ws now later g w
+    → Holds (stands_after c (refuses d count keep text) st).phase ws now later (g ++ given c (refuses d count keep text)) (w ++ text_or_none text)
+refused c d count keep None ws now later g w st own phase h =
     let held : (ws ≡ []) × (w ≡ g) = subst (λ (x : Phase). Holds x ws now later g w) phase h in
     rw own ([], append-nil w ∙ held.1 ∙ sym (append-nil g) ∙ sym (append-nil (g ++ [])))
-refused c d count (Some text) ws now later g w st own phase h =
+refused c d count keep (Some text) ws now later g w st own phase h =
     let held : (ws ≡ []) × (w ≡ g) = subst (λ (x : Phase). Holds x ws now later g w) phase h in
-    rw own (more_given g w text (held.1) ∙ ap (λ (x : List ℕ). g ++ x) (sym (append-nil text)))
+    rw own (refused_end keep ws now later (g ++ (text ++ [])) (w ++ text) (held.0) (more_given g w text (held.1) ∙ ap (λ (x : List ℕ). g ++ x) (sym (append-nil text))))
 
 -- the bytes given to a connection that is over are a beginning of its replies
 pub over : (phase : Phase) (ws : List Work) (now later : List Group) (g w : List ℕ) → Holds phase ws now later g w → IsFront (g ++ []) (w ++ [])

@@ -1,6 +1,6 @@
 -- Deed by deed, the works go on to fit each connection, and each deed comes in its order.
 use Rattle.std.proofs.Common.{◌≡◌, ℕ, Bool, true, false, Option, None, Some, List, [], ◌∷◌, ◌++◌, drop, refl, sym, ap, subst, ◌∙◌, Result, Ok, Err}
-use Rattle.std.specs.Prelude.{◌==◌, if◌then◌else◌, length}
+use Rattle.std.specs.Prelude.{◌==◌, if◌then◌else◌, is_some, length, unwrap_or}
 use Rattle.std.proofs.lemmas.Bool.{eqb-true}
 use Rattle.std.proofs.lemmas.List.{append_assoc, append-nil}
 use Rattle.oc_link.proofs.Stories.{stands-then}
@@ -17,7 +17,7 @@ use Rattle.oc_routes.specs.declared.response.Response.{Response}
 use Rattle.oc_deeds.proofs.Givings.{works_left}
 use Rattle.oc_deeds.proofs.Replying.{first_at, left_on, other_left, phase_here, rest_at, taken_other, taken_out}
 use Rattle.oc_deeds.proofs.WorksOn.{other_pushed, other_without, own_pushed}
-use Rattle.oc_deeds.specs.Deeds.{Accepts, BreaksOff, Deed, Dials, Drops, Gives, Keeps, LaysAside, Looks, Notes, Permits, Probes, Reads, Refuses, Rejects, Replies, Rereads, Running, Says, Sees, Setting, Takes, Tells, Waits, after, after_all, calls, calls_of, content_in, finish, first_piece, first_rest, keeps, piece, transfer_for, refuses, rest, takes_request, with_content}
+use Rattle.oc_deeds.specs.Deeds.{Accepts, BreaksOff, Deed, Dials, Drops, Gives, Keeps, LaysAside, Looks, Notes, Permits, Probes, Reads, Refuses, Rejects, Replies, Rereads, Running, Says, Sees, Setting, Takes, Tells, Waits, after, after_all, calls, calls_of, content_in, finish, first_piece, first_rest, keeps, piece, transfer_for, refusal_calls, refuses, rest, takes_request, with_content}
 use Rattle.oc_config.specs.Settings.{Settings}
 use Rattle.oc_link.specs.declared.look.Look.{Look}
 use Rattle.oc_updown.specs.declared.measure_lines.Measure.{Measure}
@@ -169,7 +169,7 @@ quiet_settled (Ok new) old s a = (tt, quiet_measures (fresh s.me old new) s (aft
 pub quiet_by : (r : Reread) (s : Setting) (a : Running) → AllQuiet (goes_by r s a)
 quiet_by rereads.Nothing s a = tt
 quiet_by (rereads.Unfit why) s a = (tt, tt)
-quiet_by (rereads.Config new) s a = quiet_settled (fitting s.me a.config new) a.config s a
+quiet_by (rereads.Config new) s a = quiet_settled (fitting s a.config new) a.config s a
 
 pub quiet_looks : (look : Look) (r : Reread) (s : Setting) (a : Running) → AllQuiet (looks_again look r s a)
 quiet_looks look r s a = (tt, quiet_by r s (after (Looks look) a))
@@ -191,21 +191,31 @@ waits s made x a may settled =
     by_test c false apart =
         rw apart (subst (λ (ws : List Work). Fits (phase_on c made) ws) (sym (other_pushed c a.works (works.Waits x) apart)) (settled c))
 
-refused : (c d count : ℕ) (text : Option (List ℕ)) (st : Standing) (ws : List Work) → (d == c) ≡ true → ws ≡ [] → Fits (stands_after c (refuses d count text) st).phase ws
-refused c d count None st ws own none = rw own none
-refused c d count (Some text) st ws own none = rw own none
+ended : (keep : Bool) (ws : List Work) → ws ≡ [] → Fits (if keep then Awaiting else Whole) ws
+ended true ws none = none
+ended false ws none = none
 
-refused_other : (c d count : ℕ) (text : Option (List ℕ)) (st : Standing) (ws : List Work) → (d == c) ≡ false → Fits st.phase ws → Fits (stands_after c (refuses d count text) st).phase ws
-refused_other c d count None st ws apart fits = rw apart fits
-refused_other c d count (Some text) st ws apart fits = rw apart fits
+refused : (c d count : ℕ) (keep : Bool) (text : Option (List ℕ)) (st : Standing) (ws : List Work) → (d == c) ≡ true → ws ≡ [] → Fits (stands_after c (refuses d count keep text) st).phase ws
+refused c d count keep None st ws own none = rw own none
+refused c d count keep (Some text) st ws own none = rw own (ended keep ws none)
+
+refused_other : (c d count : ℕ) (keep : Bool) (text : Option (List ℕ)) (st : Standing) (ws : List Work) → (d == c) ≡ false → Fits st.phase ws → Fits (stands_after c (refuses d count keep text) st).phase ws
+refused_other c d count keep None st ws apart fits = rw apart fits
+refused_other c d count keep (Some text) st ws apart fits = rw apart fits
 
 pub refuses_request : (s : Setting) (made : List Call) (d count : ℕ) (refusal : Refusal) (a : Running) → phase_on d made ≡ Awaiting → IsSettled made a.works → IsOrderly s made (Refuses d count refusal ∷ []) a
 refuses_request s made d count refusal a may settled =
-    orderly_one s made (Refuses d count refusal) a may (settled_by made (refuses d count (refusal_text refusal)) a.works (λ c. by_test c (d == c) refl))
+    orderly_one s made (Refuses d count refusal) a may (settled_by made (refusal_calls d count refusal) a.works (λ c. by_test c (d == c) refl))
   where
-    by_test : (c : ℕ) (b : Bool) → (d == c) ≡ b → Fits (stands_after c (refuses d count (refusal_text refusal)) (standing_of c made)).phase (works_on c a.works)
-    by_test c true own = refused c d count (refusal_text refusal) (standing_of c made) (works_on c a.works) own (none_on c d made a.works own may settled)
-    by_test c false apart = refused_other c d count (refusal_text refusal) (standing_of c made) (works_on c a.works) apart (settled c)
+    taken : ℕ
+    taken = unwrap_or refusal.kept count
+
+    keep : Bool
+    keep = is_some refusal.kept
+
+    by_test : (c : ℕ) (b : Bool) → (d == c) ≡ b → Fits (stands_after c (refusal_calls d count refusal) (standing_of c made)).phase (works_on c a.works)
+    by_test c true own = refused c d taken keep (refusal_text refusal) (standing_of c made) (works_on c a.works) own (none_on c d made a.works own may settled)
+    by_test c false apart = refused_other c d taken keep (refusal_text refusal) (standing_of c made) (works_on c a.works) apart (settled c)
 
 pub breaks : (s : Setting) (made : List Call) (d : ℕ) (a : Running) → IsSettled made a.works → IsOrderly s made (BreaksOff d ∷ []) a
 breaks s made d a settled =
@@ -232,10 +242,6 @@ drops s made d told a left =
     by_test c false apart = other_still c d (phase_on c made) a.works apart (left.others c apart)
 
 -- Texts
-
-ended : (keep : Bool) (ws : List Work) → ws ≡ [] → Fits (if keep then Awaiting else Whole) ws
-ended true ws none = none
-ended false ws none = none
 
 text_given : (c d : ℕ) (text : List ℕ) (keep watched : Bool) (left : Option Transfer) (st : Standing) (ws : List Work) → (d == c) ≡ true → st.phase ≡ Answering → ws ≡ works_left left
     → Fits (stands_after c (acts.Give d text ∷ finish d keep watched left) st).phase ws

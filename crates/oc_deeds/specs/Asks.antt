@@ -12,6 +12,7 @@ use Rattle.oc_model.specs.Step.{step}
 use Rattle.oc_routes.specs.Conditions.{unmet}
 use Rattle.oc_routes.specs.Reports.{report_of}
 use Rattle.oc_routes.specs.Routes.{response_for}
+use Rattle.oc_routes.specs.Selections.{settled}
 use Rattle.oc_routes.specs.Sights.{Sight}
 use Rattle.oc_routes.specs.Waits.{holding, is_to_wait}
 use Rattle.oc_routes.specs.declared.holding.Holding.{Holding}
@@ -50,6 +51,7 @@ sight_in s a = record {
   node = a.node.control;
   shelf = shelf a.node.groups;
   messages = length a.outbox;
+  ids = length a.config.addresses;
   addresses = a.config.addresses;
   names = a.config.names;
   retired = a.config.retired;
@@ -91,13 +93,21 @@ answers_or_waits c request now s a =
     if has_to_wait request a.node then Waits (waiting c request now) ∷ []
     else responds (pending c request (is_some request.input) false) request.input now s a
 
--- a request whose condition is not met is refused, and its input is not taken
+-- a request as the node answers it that holds these groups: with what it selects of its group
+abbrev pub settled_at : List Group → Request → Request
+settled_at groups request = settled request (holding_for request.asked.operation groups)
+
+-- a request is answered by what it selects of its group as the node holds it now; one that its conditions answer takes no input
+abbrev pub selects : ℕ → Request → ℕ → Part
+selects c request now s a = answers_or_waits c (settled_at a.node.groups request) now s a
+
+-- a request that has another length for its group is refused, and its input is not taken
 abbrev pub refuses_or : Option Refusal → ℕ → Request → ℕ → Part
 refuses_or (Some refusal) c request now = one (Refuses c request.count refusal)
-refuses_or None c request now = answers_or_waits c request now
+refuses_or None c request now = selects c request now
 
 abbrev pub takes_on : ℕ → Request → ℕ → Part
-takes_on c request now s a = refuses_or (unmet request.asked.operation a.node.control.me (shelf a.node.groups)) c request now s a
+takes_on c request now s a = refuses_or (unmet request a.node.control.me (shelf a.node.groups)) c request now s a
 
 -- the part for a verdict on this many bytes of a request
 abbrev pub obeys : ℕ → ℕ → Verdict → ℕ → Part
@@ -114,11 +124,11 @@ abbrev pub due_of : Option Work → Due
 due_of None = dues.Nothing
 due_of (Some (works.Content p)) = dues.Nothing
 due_of (Some (works.Aside p)) = dues.Aside p
-due_of (Some (works.Waits w)) = dues.Waits (pending w.connection w.request (is_some (client_input w.request.asked.operation w.request.asked.hint)) true)
+due_of (Some (works.Waits w)) = dues.Waits (pending w.connection w.request (is_some (client_input w.request.asked)) true)
 
 -- a client that waits is answered
 abbrev pub wakes : Pending → ℕ → Part
-wakes r now = responds r (client_input r.asked.operation r.asked.hint) now
+wakes r now = responds r (client_input r.asked) now
 
 -- a content goes on, and a client that waits is answered
 abbrev pub taken_up : Due → ℕ → Part

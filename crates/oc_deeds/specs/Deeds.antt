@@ -1,5 +1,5 @@
 -- The deeds of a running node: the node after each deed, the line that the deed writes, and its calls on the link.
-use Rattle.std.specs.Prelude.{ℕ, Bool, true, false, if◌then◌else◌, Option, None, Some, unwrap_or, List, [], ◌∷◌, ◌++◌, codes, length, remove, nat_le, ◌+◌, ◌-◌, ◌^◌}
+use Rattle.std.specs.Prelude.{ℕ, Bool, true, false, if◌then◌else◌, Option, None, Some, is_some, unwrap_or, List, [], ◌∷◌, ◌++◌, codes, length, remove, nat_le, ◌+◌, ◌-◌, ◌^◌}
 use Rattle.std.specs.Option.{option_map}
 use Rattle.oc_base.specs.declared.group.Group.{Group}
 use Rattle.oc_link.specs.declared.call.Call.{Call}
@@ -33,6 +33,7 @@ use Rattle.oc_routes.specs.Tallies.{TallyView, known_before, with_refused, with_
 use Rattle.oc_routes.specs.Sights.{AboutView}
 use Rattle.oc_routes.specs.declared.tally.MessageFault.{MessageFault}
 use Rattle.oc_wire.specs.Macs.{request_of}
+use Rattle.oc_deeds.specs.Areas.{with_areas_of}
 use Rattle.oc_deeds.specs.Counted.{noted, with_refused_request, with_reply_to}
 use Rattle.oc_deeds.specs.Dials.{brings, dialling}
 use Rattle.oc_deeds.specs.Dials as dials
@@ -100,7 +101,7 @@ pub data Deed : Type 0 where
   Waits : Waiting → Deed
   -- a request was answered at this time
   Replies : Pending → Response → ℕ → Deed
-  -- a request of this many bytes was refused
+  -- a request was refused, of which this many bytes had come
   Refuses : ℕ → ℕ → Refusal → Deed
   -- the reply to a message was refused
   Rejects : MessageFault → Deed
@@ -118,7 +119,7 @@ pub data Deed : Type 0 where
   Probes : ℕ → ℕ → ℕ → Deed
   -- the file of the configuration was looked at, which gave this
   Looks : Look → Deed
-  -- a configuration was read again, and is the one that the node goes by from now on
+  -- a configuration was read again, and is the one that the node goes by from now on, with its areas
   Rereads : Settings → Deed
   -- what was read again is not, for this reason
   Keeps : Unfit → Deed
@@ -281,7 +282,7 @@ after (Drops c told) a = record a { works = without_work c a.works }
 after (Dials place m d) a = record a { outbox = remove a.outbox place; dials = a.dials ++ dialling d (brings m) ∷ [] }
 after (Probes peer d now) a = record a { dials = a.dials ++ dialling d (errands.Probe peer now) ∷ [] }
 after (Looks look) a = record a { about = when_seen look a.about }
-after (Rereads config) a = record a { config = config; about = when_read false a.about }
+after (Rereads config) a = record a { node = with_areas_of config.areas a.node; config = config; about = when_read false a.about }
 after (Keeps why) a = record a { about = when_read true a.about }
 after d a = a
 
@@ -292,10 +293,15 @@ abbrev pub finish : ℕ → Bool → Bool → Option Transfer → List Call
 finish c keeps watched None = acts.Finish c (record { keeps = keeps; watched = watched }) ∷ []
 finish c keeps watched (Some left) = []
 
--- a refusal, which ends the connection; a connection whose refusal has no text is broken off
-abbrev pub refuses : ℕ → ℕ → Option (List ℕ) → List Call
-refuses c count None = acts.BreakOff c ∷ []
-refuses c count (Some text) = acts.Take c count ∷ acts.Give c text ∷ finish c false false None
+-- a refusal of a request of this many bytes, by which the connection ends or its next request is awaited; a connection whose refusal has no text is
+-- broken off
+abbrev pub refuses : ℕ → ℕ → Bool → Option (List ℕ) → List Call
+refuses c count keep None = acts.BreakOff c ∷ []
+refuses c count keep (Some text) = acts.Take c count ∷ acts.Give c text ∷ finish c keep false None
+
+-- The calls of a refusal. Where the connection is kept it takes the bytes of its request, and else all that came.
+abbrev pub refusal_calls : ℕ → ℕ → Refusal → List Call
+refusal_calls c came refusal = refuses c (unwrap_or refusal.kept came) (is_some refusal.kept) (refusal_text refusal)
 
 -- a request that has waited was taken before
 abbrev pub takes_request : Pending → List Call
@@ -311,7 +317,7 @@ calls s (Replies r response now) a =
     takes_request r
     ++ acts.Give r.connection (given_first r response now a.node.groups)
     ∷ finish r.connection (keeps response.connection) r.told (first_rest (transfer_for r response now) now a.node.groups)
-calls s (Refuses c count refusal) a = refuses c count (refusal_text refusal)
+calls s (Refuses c count refusal) a = refusal_calls c count refusal
 calls s (BreaksOff c) a = acts.BreakOff c ∷ []
 calls s (Gives p now) a = acts.Give p.connection (piece p a.node.groups) ∷ finish p.connection p.keeps p.told (rest p now a.node.groups)
 calls s (Dials place m d) a = acts.Dial d (address_in a m.to) (dial_text (key_in a) (address_in a m.to) m) ∷ []

@@ -15,6 +15,11 @@ use Rattle.oc_routes.specs.Sights.{AboutView}
 use Rattle.oc_routes.specs.Tallies.{first_tally}
 use Rattle.oc_routes.specs.declared.hint.Hint.TheVariants.{Plain}
 use Rattle.oc_routes.specs.Inputs.{input_line}
+use Rattle.oc_routes.specs.Refusals.{refusal_text}
+use Rattle.oc_routes.specs.declared.asker.Asker.TheVariants.{Client}
+use Rattle.oc_routes.specs.declared.refused.Refused.TheVariants.{Path}
+use Rattle.oc_routes.specs.declared.verdict.Refusal.{Refusal}
+use Rattle.oc_select.specs.declared.selection.Selection.TheVariants.{Whole}
 use Rattle.oc_routes.specs.declared.manner.Manner.TheVariants.{Once}
 use Rattle.oc_routes.specs.declared.response.GroupRange.{GroupRange}
 use Rattle.oc_routes.specs.declared.response.Response.{Response}
@@ -22,8 +27,9 @@ use Rattle.oc_routes.specs.declared.routes.Operation.{Operation}
 use Rattle.oc_routes.specs.declared.routes.Operation.TheVariants as asks
 use Rattle.oc_config.specs.Settings.{Settings}
 use Rattle.oc_wire.specs.Macs.{request_of}
-use Rattle.oc_deeds.specs.Deeds.{Accepts, Deed, Dials, Drops, Gives, Notes, Replies, Rereads, Running, Sees, Setting, after_all, calls_of, errand_in, lines}
+use Rattle.oc_deeds.specs.Deeds.{Accepts, Deed, Dials, Drops, Gives, Notes, Refuses, Replies, Rereads, Running, Sees, Setting, after_all, calls_of, errand_in, lines}
 use Rattle.oc_deeds.specs.Dials.{dialling}
+use Rattle.oc_deeds.specs.Replying.{text_or_none}
 use Rattle.oc_deeds.specs.declared.dials.Errand.TheVariants as errands
 use Rattle.oc_deeds.specs.declared.work.Pending.{Pending}
 use Rattle.oc_deeds.specs.declared.log.Log.TheVariants.{Inputs}
@@ -66,7 +72,7 @@ came c = events.Request (record { connection = c; number = 1; permitted = false;
 
 -- a request with an input, which is to be answered
 abbrev pending : ℕ → ℕ → Operation → Pending
-pending c count operation = record { connection = c; count = count; asked = record { operation = operation; hint = Plain }; last = false; told = true; waited = false }
+pending c count operation = record { connection = c; count = count; asked = record { operation = operation; hint = Plain; selection = Whole }; last = false; told = true; waited = false }
 
 -- a response
 abbrev response : List ℕ → Option GroupRange → Persistence → Response
@@ -99,6 +105,14 @@ left = record { connection = 8; content = record { group = codes "/a"; at = 3; e
 abbrev content : List Deed
 content = head_deed ∷ publishes (codes "def") ∷ Gives left 9 ∷ []
 
+-- A request of 30 bytes is refused on a connection that is kept, of which 70 bytes have come, and the next request on it is answered.
+
+abbrev no_such_path : Refusal
+no_such_path = record { why = Path; asker = Client; kept = Some 30 }
+
+abbrev kept : List Deed
+kept = Refuses 9 70 no_such_path ∷ Replies (pending 9 40 (asks.Client (codes "/a") 0 0 Once)) (response (codes "200") None Keep) 5 ∷ []
+
 -- A message to node 2 is dialled, and its reply comes.
 
 abbrev look : Message
@@ -122,6 +136,11 @@ pub record AreRuns : Type 0 where
       ≡ acts.Take 8 40 ∷ acts.Give 8 (codes "200:abc") ∷ acts.Give 8 (codes "def") ∷ acts.Finish 8 (record { keeps = true; watched = true }) ∷ []
   pub content_left : (after_all (head_deed ∷ []) published).works ≡ works.Content left ∷ []
   pub content_given : (after_all content published).works ≡ []
+  pub kept_calls : calls_of example kept published
+      ≡ acts.Take 9 30 ∷ acts.Give 9 (text_or_none (refusal_text no_such_path)) ∷ acts.Finish 9 (record { keeps = true; watched = false })
+      ∷ acts.Take 9 40 ∷ acts.Give 9 (codes "200") ∷ acts.Finish 9 (record { keeps = true; watched = true }) ∷ []
+  pub ending_calls : calls_of example (Refuses 9 70 (record no_such_path { kept = None }) ∷ []) published
+      ≡ acts.Take 9 70 ∷ acts.Give 9 (text_or_none (refusal_text (record no_such_path { kept = None }))) ∷ acts.Finish 9 (record { keeps = false; watched = false }) ∷ []
   pub dial_calls : calls_of example (dial ++ Sees reply 100 (codes "204") ∷ []) (started (look ∷ []))
       ≡ acts.Dial 3 (codes "b:2") (request_of None (codes "b:2") look) ∷ acts.Next reply (codes "204") ∷ []
   pub dial_nowhere : calls_of example (Rereads (record two_nodes { addresses = Some (codes "a:1") ∷ None ∷ [] }) ∷ dial) (started (look ∷ []))

@@ -12,7 +12,8 @@ use Rattle.oc_routes.specs.Seal.{seal_status}
 use Rattle.oc_routes.specs.declared.verdict.Refusal.{Refusal}
 use Rattle.oc_routes.specs.declared.routes.Operation.{Operation}
 use Rattle.oc_routes.specs.declared.routes.Operation.TheVariants as asks
-use Rattle.oc_deeds.specs.Asks.{answer_now}
+use Rattle.oc_routes.specs.declared.verdict.Request.{Request}
+use Rattle.oc_deeds.specs.Asks.{answer_now, settled_at}
 use Rattle.oc_deeds.specs.declared.came.Came.{Came}
 use Rattle.oc_deeds.specs.declared.came.Came.TheVariants as comes
 
@@ -25,16 +26,16 @@ hurries other answer = false
 abbrev pub input_hurries : Operation → Option Input → Node → Bool
 input_hurries asked input n = hurries asked (answer_now input n)
 
--- a request hurries the tick, unless its condition is not met
-abbrev pub hurries_unless : Option Refusal → Operation → Option Input → Node → Bool
-hurries_unless (Some refusal) asked input n = false
-hurries_unless None asked input n = input_hurries asked input n
+-- a request hurries the tick as it is answered, unless it is refused
+abbrev pub hurries_unless : Option Refusal → Request → Node → Bool
+hurries_unless (Some refusal) request n = false
+hurries_unless None request n = input_hurries request.asked.operation (settled_at n.groups request).input n
 
-abbrev pub request_hurries : Operation → Option Input → Node → Bool
-request_hurries asked input n = hurries_unless (unmet asked n.control.me (shelf n.groups)) asked input n
+abbrev pub request_hurries : Request → Node → Bool
+request_hurries request n = hurries_unless (unmet request n.control.me (shelf n.groups)) request n
 
 abbrev pub verdict_hurries : Verdict → Node → Bool
-verdict_hurries (verdicts.Ask request) n = request_hurries request.asked.operation request.input n
+verdict_hurries (verdicts.Ask request) n = request_hurries request n
 verdict_hurries verdict n = false
 
 -- whether news hurries the tick: a verdict on a request, or the reply of 200 to a message, with its MAC where the network has keys

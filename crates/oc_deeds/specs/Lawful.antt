@@ -1,12 +1,12 @@
 -- Lawful addresses, works, news, and states kept for probes.
-use Rattle.std.specs.Prelude.{◌≡◌, ℕ, ◌<◌, Option, IfSome, List, length}
+use Rattle.std.specs.Prelude.{◌≡◌, ℕ, ◌<◌, ◌≤◌, Option, IfSome, List, length}
 use Rattle.std.specs.List.{AllByRecursion}
 use Rattle.oc_base.specs.Lawful.{IsNode}
 use Rattle.oc_http.specs.Writing.{IsHost}
 use Rattle.oc_model.specs.Lawful.{IsInput}
 use Rattle.oc_probe.specs.declared.probing.Probing.{Probing}
 use Rattle.oc_routes.specs.Asks.{IsLawfulVerdict}
-use Rattle.oc_routes.specs.Lawful.{IsAsked}
+use Rattle.oc_routes.specs.Lawful.{IsAsking}
 use Rattle.oc_routes.specs.Responses.{address_of}
 use Rattle.oc_deeds.specs.Works.{client_input}
 use Rattle.oc_deeds.specs.declared.came.Came.{Came}
@@ -18,15 +18,15 @@ use Rattle.oc_deeds.specs.declared.work.Waiting.{Waiting}
 use Rattle.oc_deeds.specs.declared.work.Work.{Work}
 use Rattle.oc_deeds.specs.declared.work.Work.TheVariants as works
 
--- the address of each node has a place, and may be the host of a request
+-- no more addresses have a place than there are nodes, and each may be the host of a request
 pub record IsPlaced (nodes : ℕ) (addresses : List (Option (List ℕ))) : Type 0 where
-  pub count : length addresses ≡ nodes
+  pub count : length addresses ≤ nodes
   pub hosts : (x : ℕ) → 0 < length (address_of addresses x) → IsHost (address_of addresses x)
 
 -- a request that waits is within its ranges, and so is its input
 pub record IsLawfulWaiting (nodes me : ℕ) (w : Waiting) : Type 0 where
-  pub asks : IsAsked w.request.asked.operation
-  pub input : IfSome (client_input w.request.asked.operation w.request.asked.hint) (IsInput nodes me)
+  pub asks : IsAsking w.request.asked
+  pub input : IfSome (client_input w.request.asked) (IsInput nodes me)
 
 -- a request that waits is lawful
 abbrev pub IsLawfulWork : ℕ → ℕ → Work → Type 0

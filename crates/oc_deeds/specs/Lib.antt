@@ -8,7 +8,9 @@ pub mod Records
 pub mod Brief
 pub mod Unfit
 pub mod Counted
+pub mod Areas
 pub mod Deeds
+pub mod Changes
 pub mod Done
 pub mod Under
 pub mod Parts

@@ -9,11 +9,13 @@ use Rattle.oc_model.specs.declared.answer.Answer.{Answer}
 use Rattle.oc_routes.specs.Contents.{IsThere, owed}
 use Rattle.oc_routes.specs.Routes.{response_for}
 use Rattle.oc_routes.specs.declared.content.UnderWay.{UnderWay}
+use Rattle.oc_routes.specs.declared.hint.Asked.{Asked}
 use Rattle.oc_routes.specs.declared.hint.Hint.{Hint}
 use Rattle.oc_routes.specs.Refusals.{refusal_text}
 use Rattle.oc_routes.specs.declared.connections.TheConstants.{CONTINUE}
 use Rattle.oc_routes.specs.declared.response.Response.{Response}
 use Rattle.oc_routes.specs.declared.routes.Operation.{Operation}
+use Rattle.oc_select.specs.declared.selection.Selection.{Selection}
 use Rattle.oc_deeds.specs.Asks.{holding_for}
 use Rattle.oc_deeds.specs.Deeds.{Deed, Permits, Waits, Replies, Refuses, Gives, LaysAside, Drops, Running, Setting, after, calls, content_in}
 use Rattle.oc_deeds.specs.Works.{connection_of}
@@ -87,7 +89,11 @@ replied_all c (d ∷ ds) groups = replied c d groups ++ replied_all c ds groups
 
 -- Replies to clients
 
+-- an operation with this hint, of which this is selected
+abbrev pub asked_of : Operation → Hint → Selection → Asked
+asked_of operation hint chosen = record { operation = operation; hint = hint; selection = chosen }
+
 -- the content that a client is given by a node with these groups, for this answer of its step
-abbrev pub client_content : Operation → Hint → Bool → Answer → List Group → List (Option (List ℕ)) → Option UnderWay
-client_content operation hint last answer groups addresses =
-    content_in operation (response_for (record { operation = operation; hint = hint }) last answer None (holding_for operation groups) addresses None []).content
+abbrev pub client_content : Asked → Bool → Answer → List Group → List (Option (List ℕ)) → Option UnderWay
+client_content asked last answer groups addresses =
+    content_in asked.operation (response_for asked last answer None (holding_for asked.operation groups) addresses None []).content

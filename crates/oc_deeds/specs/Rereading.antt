@@ -19,6 +19,7 @@ use Rattle.oc_probe.specs.declared.probing.Probing.{Probing}
 use Rattle.oc_updown.specs.declared.measure_lines.Measure.{Measure}
 use Rattle.oc_deeds.specs.Deeds.{Keeps, Looks, Rereads, Running, Setting}
 use Rattle.oc_deeds.specs.Parts.{Part, nothing, one, ◌>>◌}
+use Rattle.oc_deeds.specs.Records.{is_record}
 use Rattle.oc_deeds.specs.Telling.{takes_ahead}
 use Rattle.oc_deeds.specs.declared.reread.Reread.{Reread}
 use Rattle.oc_deeds.specs.declared.reread.Reread.TheVariants as rereads
@@ -73,13 +74,16 @@ abbrev pub or_restart : Result Settings ConfigKey → Result Settings Unfit
 or_restart (Ok new) = Ok new
 or_restart (Err key) = Err (Restart key)
 
--- the node that runs: it keeps the greatest id and the areas that it began with, whatever it writes
-abbrev pub changing : ℕ → Changing
-changing me = record { me = me; recorded = true }
+-- the node that runs: one that writes a record keeps the greatest id and the areas that it began with
+abbrev pub changing : Setting → Changing
+changing s = record { me = s.me; recorded = is_record s.log }
 
 -- The new configuration, or why the node goes on by the old one: what a start would refuse, too, and then what needs a new start.
-abbrev pub fitting : ℕ → Settings → Settings → Result Settings Unfit
-fitting me old new = if is_placed me new then or_restart (config_change (changing me) old new) else Err Stranger
+abbrev pub fitting_for : Changing → Settings → Settings → Result Settings Unfit
+fitting_for running old new = if is_placed running.me new then or_restart (config_change running old new) else Err Stranger
+
+abbrev pub fitting : Setting → Settings → Settings → Result Settings Unfit
+fitting s old new = fitting_for (changing s) old new
 
 -- the node's own measures that the old configuration had not
 abbrev pub is_fresh : ℕ → List Measure → Measure → Bool
@@ -105,7 +109,7 @@ settles (Ok new) old s a = (one (Rereads new) >> takes_measures (fresh s.me old 
 abbrev pub goes_by : Reread → Part
 goes_by rereads.Nothing s a = []
 goes_by (rereads.Unfit why) s a = Keeps why ∷ []
-goes_by (rereads.Config new) s a = settles (fitting s.me a.config new) a.config s a
+goes_by (rereads.Config new) s a = settles (fitting s a.config new) a.config s a
 
 -- The file is looked at, and what it gives is gone by.
 abbrev pub looks_again : Look → Reread → Part
@@ -121,6 +125,6 @@ abbrev pub rerouted : ℕ → Result Settings Unfit → Option Probing → Optio
 rerouted me (Ok new) p = option_map (rotated_to me new) p
 rerouted me (Err why) p = p
 
-abbrev pub probing_by : ℕ → Settings → Reread → Option Probing → Option Probing
-probing_by me old (rereads.Config new) p = rerouted me (fitting me old new) p
-probing_by me old r p = p
+abbrev pub probing_by : Setting → Settings → Reread → Option Probing → Option Probing
+probing_by s old (rereads.Config new) p = rerouted s.me (fitting s old new) p
+probing_by s old r p = p

@@ -45,7 +45,7 @@ use Rattle.oc_deeds.specs.declared.work.Work.{Work}
 
 -- the terms by which a running node reads requests
 abbrev pub terms_in : Setting → Running → NodeTerms
-terms_in s a = terms_of s.me a.node.control.nodes a.config.rules a.config.keys
+terms_in s a = terms_of s.me (length a.config.addresses) a.config.rules a.config.keys
 
 -- the news of a dial with this errand; a reply to no dial is no news
 abbrev pub MeansBack : NodeTerms → List ℕ → Option Errand → Coming → Came → Type 0

@@ -4,7 +4,8 @@ use Rattle.oc_model.specs.declared.input.Input.{Input}
 use Rattle.oc_model.specs.declared.input.Input.TheVariants as inputs
 use Rattle.oc_routes.specs.Elements.{element_at, without_at}
 use Rattle.oc_routes.specs.Verdicts.{input_for}
-use Rattle.oc_routes.specs.declared.hint.Hint.{Hint}
+use Rattle.oc_routes.specs.Selections.{input_by}
+use Rattle.oc_routes.specs.declared.hint.Asked.{Asked}
 use Rattle.oc_routes.specs.declared.verdict.Request.{Request}
 use Rattle.oc_routes.specs.declared.routes.Operation.{Operation}
 use Rattle.oc_routes.specs.declared.routes.Operation.TheVariants as asks
@@ -32,10 +33,14 @@ without_work c ws = without_at ws (index_on c ws)
 
 -- Requests that wait
 
--- the input of a client that asks for a group, where the node is not to answer itself
-abbrev pub client_input : Operation → Hint → Option Input
-client_input (asks.Client group area start manner) hint = input_for hint (Some (inputs.Client area start group))
-client_input other hint = None
+-- the input of a client that asks for a group
+abbrev pub input_asked : Operation → Option Input
+input_asked (asks.Client group area start manner) = Some (inputs.Client area start group)
+input_asked other = None
+
+-- the same, where neither the node is to answer itself nor a condition answers
+abbrev pub client_input : Asked → Option Input
+client_input asked = input_by asked.selection (input_for asked.hint (input_asked asked.operation))
 
 -- a request that is to be answered on a connection: whether a line tells if its reply cannot be sent, and whether it was taken before
 abbrev pub pending : ℕ → Request → Bool → Bool → Pending

@@ -27,10 +27,8 @@ pub fn waiting(connection: ConnectionId, request: Request, now: u64) -> Waiting
     Waiting {
         connection,
         request: Request {
-            count: request.count,
-            asked: request.asked,
             input: None,
-            last: request.last,
+            ..request
         },
         since: now,
     }

@@ -7,7 +7,7 @@ use oc_probe::ProbeFault;
 use oc_routes::{MessageFault, Verdict};
 
 /// The news of an event, once its bytes were read.
-#[derive(Debug, Drop)]
+#[derive(Drop)]
 pub enum Came {
     /// This many bytes of a request, with the verdict on them.
     Request {

@@ -1,19 +1,22 @@
 //! A doer of deeds: a running node with its files, its link and its output, or a stand-in for one.
 
-ghost use Rattle.std.specs.Prelude.{◌≡◌, ◌<◌, IfErr, IfOk, IfSome, List, OnOk, [], length};
+ghost use Rattle.std.specs.Prelude.{◌≡◌, ◌<◌, ◌≤◌, IfErr, IfOk, IfSome, List, OnOk, [], false, length, true};
 ghost use Rattle.std.specs.List.{AllByRecursion};
 ghost use Rattle.oc_base.specs.Groups.{shelf};
 ghost use Rattle.oc_base.specs.Lawful.{IsNode};
+ghost use Rattle.oc_base.specs.declared.limits.TheConstants.{MAX_AREA, MAX_NODES as MOST_NODES};
 ghost use Rattle.oc_model.specs.Lawful.{IsInput};
 ghost use Rattle.oc_model.specs.Step.{step};
 ghost use Rattle.oc_routes.specs.Asks.{IsLawfulAsk};
-ghost use Rattle.oc_routes.specs.Lawful.{IsAsked};
+ghost use Rattle.oc_routes.specs.Lawful.{IsAsking};
 ghost use Rattle.oc_wire.specs.Spelling.{HasSpelling};
+ghost use Rattle.oc_deeds.specs.Areas.{areas_among};
 ghost use Rattle.oc_deeds.specs.Asks.{has_to_wait, replies};
 ghost use Rattle.oc_config.specs.Reading.{IsConfig};
 ghost use Rattle.oc_deeds.specs.Deeds.{Accepts, BreaksOff, Drops, Gives, Keeps, LaysAside, Looks, Notes, Permits, Probes, Reads, Refuses, Rereads, Rejects, Running, Setting, Takes, Tells, Waits, after_all, back_to, sender_of};
 ghost use Rattle.oc_deeds.specs.Lawful.{IsLawfulWaiting, IsLawfulWork};
 ghost use Rattle.oc_deeds.specs.Parts.{Part, in_turn, nothing, one};
+ghost use Rattle.oc_deeds.specs.Records.{is_record};
 ghost use Rattle.oc_deeds.specs.Sends.{dials_as};
 ghost use Rattle.oc_deeds.specs.Telling.{says_ahead, says_after};
 ghost use Rattle.oc_deeds.specs.declared.ends.TurnEnd.{TurnEnd};
@@ -152,12 +155,13 @@ pub trait Doer {
     /// Answers a request by the result of its input.
     fn replies(&mut self, pending: Pending, accepted: &Accepted, now: u64) -> Result<(), TurnEnd>
         requires serving { serving self.old }
-        requires asks { IsAsked pending.asked.operation }
+        requires asks { IsAsking pending.asked }
         requires back { IfSome accepted.now.back (λ m. HasSpelling m.body) }
         ensures did { OnOk result (does (replies pending now accepted.now.answer accepted.now.back) self.old self.new) }
         ensures breaks { IfErr result (λ end. stops end (replies pending now accepted.now.answer accepted.now.back) self.old self.new) };
 
-    /// Refuses a request of this many bytes.
+    /// Refuses a request on a connection on which this many bytes of it came. Where the connection is kept, its next request
+    /// begins after the bytes of this one; else all that came is passed over.
     fn refuses(
         &mut self,
         connection: ConnectionId,
@@ -215,11 +219,15 @@ pub trait Doer {
         requires { serving self.old }
         ensures { does (one (Looks result)) self.old self.new };
 
-    /// Goes by this configuration from now on, which has a place for as many nodes as before, and tells so.
-    fn rereads(&mut self, config: Config)
+    /// Goes by this configuration from now on, and by its areas, and tells so. There are nodes for all of its places; where a
+    /// record is written, the areas are those of before.
+    fn rereads(&mut self, config: Config, areas: Vec<u8>)
         requires serving { serving self.old }
         requires config { IsConfig config }
-        requires nodes { length config.addresses ≡ (running self.old).node.control.nodes }
+        requires nodes { length config.addresses ≤ (running self.old).node.control.nodes }
+        requires areas { areas.items ≡ areas_among (running self.old).node.control.nodes config.areas }
+        requires bytes { AllByRecursion (λ a. a ≤ MAX_AREA) areas.items }
+        requires recorded { is_record (setting self.old).log ≡ true → areas.items ≡ (running self.old).node.control.areas }
         ensures { does (one (Rereads config)) self.old self.new };
 
     /// Tells why it goes on by the configuration that it has.
@@ -265,5 +273,7 @@ pub trait Doer {
     fn is_lawful()
         ensures lawful_works { (a : Self) → serving a → AllByRecursion (IsLawfulWork (running a).node.control.nodes (running a).node.control.me) (running a).works }
         ensures same_me { (a : Self) → (setting a).me ≡ (running a).node.control.me }
-        ensures places { (a : Self) → serving a → length (running a).config.addresses ≡ (running a).node.control.nodes };
+        ensures places { (a : Self) → serving a → length (running a).config.addresses ≤ (running a).node.control.nodes }
+        ensures roomy { (a : Self) → serving a → is_record (setting a).log ≡ false → (running a).node.control.nodes ≡ MOST_NODES }
+        ensures areas { (a : Self) → serving a → (running a).node.control.areas ≡ areas_among (running a).node.control.nodes (running a).config.areas };
 }

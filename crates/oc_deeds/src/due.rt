@@ -7,7 +7,7 @@ ghost use Rattle.oc_deeds.specs.Works.{client_input, pending};
 use crate::work::{Pending, Transfer, Waiting, Work, client_input, pending_of};
 
 /// The next step of a work that is due by itself.
-#[derive(Debug, Drop)]
+#[derive(Drop)]
 pub enum Due {
     /// A content goes on.
     Aside(Transfer),
@@ -30,9 +30,9 @@ pub fn due_of(works: &[Work], index: usize) -> Due
 
 /// A request that waits is to be answered.
 fn to_wake(waiting: &Waiting) -> Pending
-    ensures { result ≡ pending waiting.now.connection waiting.now.request (is_some (client_input waiting.now.request.asked.operation waiting.now.request.asked.hint)) true }
+    ensures { result ≡ pending waiting.now.connection waiting.now.request (is_some (client_input waiting.now.request.asked)) true }
 {
     let request = &waiting.request;
-    let input = client_input(&request.asked.operation, request.asked.hint);
+    let input = client_input(&request.asked);
     pending_of(waiting.connection, request, input.is_some(), true)
 }

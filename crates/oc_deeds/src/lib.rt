@@ -16,8 +16,9 @@
 //! place in a group and not bytes ([`Transfer`]), so nothing grows with its length. A follower that has all of a group
 //! waits ([`Waiting`]).
 //!
-//! [`connections_are_given_their_replies`] says that each connection is given the replies to its requests, whatever
-//! deeds are done in whatever order.
+//! [`connections_are_given_their_replies`] says that each connection is given the replies to its requests one after
+//! another, those of refusals too, whatever deeds are done in whatever order. What a request selects of its group is settled when
+//! it is taken up, and [`a_part_is_what_is_given`] says that a part is given as it is.
 #![tactic(auto)]
 
 pub mod asked;
@@ -59,7 +60,8 @@ pub use doer::Doer;
 pub use due::{Due, due_of};
 pub use ends::TurnEnd;
 pub use law::{
-    connections_are_given_their_replies, examples_compute, what_is_given_in_chunks_is_there,
+    a_part_is_what_is_given, connections_are_given_their_replies, examples_compute,
+    what_is_given_in_chunks_is_there,
 };
 pub use log::Log;
 pub use outbox::{Outbox, is_fetch, put_all};

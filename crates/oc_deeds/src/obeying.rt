@@ -3,18 +3,19 @@
 ghost use Rattle.std.specs.Prelude.{◌≡◌, IfErr, IfOk, IfSome, OnOk};
 ghost use Rattle.oc_model.specs.Lawful.{IsInput};
 ghost use Rattle.oc_routes.specs.Asks.{IsLawfulAsk, IsLawfulVerdict};
-ghost use Rattle.oc_routes.specs.Lawful.{IsAsked};
-ghost use Rattle.oc_deeds.specs.Asks.{answers_or_waits, obeys, responds, takes_on};
+ghost use Rattle.oc_routes.specs.Lawful.{IsAsking};
+ghost use Rattle.oc_select.specs.declared.selection.Selection.TheVariants.{Whole};
+ghost use Rattle.oc_deeds.specs.Asks.{answers_or_waits, obeys, responds, selects, settled_at, takes_on};
 ghost use Rattle.oc_deeds.specs.Hurries.{input_hurries, request_hurries, verdict_hurries};
 
-use crate::asked::{Accepted, hurries, waiting};
+use crate::asked::{Accepted, holding_in, hurries, waiting};
 use crate::doer::Doer;
 use crate::ends::TurnEnd;
 use crate::told::accepts_in;
 use crate::work::{Pending, pending_of};
 use oc_link::ConnectionId;
 use oc_model::{Answer, Input};
-use oc_routes::{Request, Verdict, unmet};
+use oc_routes::{Request, Verdict, settled, unmet};
 
 /// Does the part of a verdict on this many bytes of a request. Gives whether this hurries the next tick.
 pub fn obeys<W: Doer>(
@@ -50,7 +51,7 @@ pub fn obeys<W: Doer>(
     }
 }
 
-/// Refuses a whole request whose condition is not met; answers any other, or lets it wait.
+/// Refuses a whole request that has another length for its group; answers any other, or lets it wait.
 fn takes_on<W: Doer>(
     doer: &mut W,
     connection: ConnectionId,
@@ -59,19 +60,42 @@ fn takes_on<W: Doer>(
 ) -> Result<bool, TurnEnd>
     requires serving { W.serving doer.old }
     requires request { IsLawfulAsk (W.running doer.old).node.control.nodes (W.running doer.old).node.control.me request }
+    requires whole { request.asked.selection ≡ Whole }
     ensures did { OnOk result (W.does (takes_on connection request now) doer.old doer.new) }
-    ensures hurries { IfOk result (λ hurries. W.honest doer.old → hurries ≡ request_hurries request.asked.operation request.input (W.running doer.old).node) }
+    ensures hurries { IfOk result (λ hurries. W.honest doer.old → hurries ≡ request_hurries request (W.running doer.old).node) }
     ensures breaks { IfErr result (λ end. W.stops end (takes_on connection request now) doer.old doer.new) }
 {
     W::parts_go_on();
     W::parts_stop();
-    match unmet(&request.asked.operation, doer.node().id(), doer.shelf()) {
+    match unmet(&request, doer.node().id(), doer.shelf()) {
         Some(refusal) => {
             doer.refuses(connection, request.count, refusal)?;
             Ok(false)
         }
-        None => answers_or_waits(doer, connection, request, now),
+        None => selects(doer, connection, request, now),
     }
+}
+
+/// Answers a whole request by what it selects of its group as the node holds it now, or lets it wait.
+fn selects<W: Doer>(
+    doer: &mut W,
+    connection: ConnectionId,
+    request: Request,
+    now: u64,
+) -> Result<bool, TurnEnd>
+    requires serving { W.serving doer.old }
+    requires request { IsLawfulAsk (W.running doer.old).node.control.nodes (W.running doer.old).node.control.me request }
+    requires whole { request.asked.selection ≡ Whole }
+    ensures did { OnOk result (W.does (selects connection request now) doer.old doer.new) }
+    ensures hurries { IfOk result (λ hurries. W.honest doer.old → hurries ≡ input_hurries request.asked.operation (settled_at (W.running doer.old).node.groups request).input (W.running doer.old).node) }
+    ensures breaks { IfErr result (λ end. W.stops end (selects connection request now) doer.old doer.new) }
+{
+    W::parts_go_on();
+    W::parts_stop();
+    doer.may_end();
+    let holding = holding_in(&request.asked.operation, doer.shelf());
+    let request = settled(doer.alloc(), request, holding)?;
+    answers_or_waits(doer, connection, request, now)
 }
 
 /// Answers a whole request, or lets it wait.
@@ -105,7 +129,7 @@ pub fn responds<W: Doer>(
     now: u64,
 ) -> Result<bool, TurnEnd>
     requires serving { W.serving doer.old }
-    requires asks { IsAsked pending.asked.operation }
+    requires asks { IsAsking pending.asked }
     requires input { IfSome input (IsInput (W.running doer.old).node.control.nodes (W.running doer.old).node.control.me) }
     ensures did { OnOk result (W.does (responds pending input now) doer.old doer.new) }
     ensures hurries { IfOk result (λ hurries. W.honest doer.old → hurries ≡ input_hurries pending.asked.operation input (W.running doer.old).node) }
@@ -134,7 +158,7 @@ fn accepts_and_responds<W: Doer>(
     now: u64,
 ) -> Result<bool, TurnEnd>
     requires serving { W.serving doer.old }
-    requires asks { IsAsked pending.asked.operation }
+    requires asks { IsAsking pending.asked }
     requires input { IsInput (W.running doer.old).node.control.nodes (W.running doer.old).node.control.me input }
     ensures did { OnOk result (W.does (responds pending (Some input) now) doer.old doer.new) }
     ensures hurries { IfOk result (λ hurries. W.honest doer.old → hurries ≡ input_hurries pending.asked.operation (Some input) (W.running doer.old).node) }

@@ -1,6 +1,6 @@
 //! The response that came back on a dial.
 
-ghost use Rattle.std.specs.Prelude.{◌≡◌, Result, IfOk, IfSome, OnOk, option_map};
+ghost use Rattle.std.specs.Prelude.{◌≡◌, ◌≤◌, Result, IfOk, IfSome, OnOk, option_map};
 ghost use Rattle.oc_base.specs.Lawful.{IsNode};
 ghost use Rattle.oc_http.specs.declared.fault.HttpFault.{HttpFault};
 ghost use Rattle.oc_http.specs.declared.reply.Reply.{Reply};
@@ -23,11 +23,13 @@ use oc_routes::MessageFault;
 use oc_wire::{WireFault, decode, is_authentic};
 use std::alloc::Global;
 
-/// A node that hears back: its id, the number of nodes, and the keys of the network, where it has some.
+/// A node that hears back: its id, the number of nodes, the greatest id that a message may tell, and the keys of the
+/// network, where it has some.
 #[derive(Clone, Copy, Drop)]
 pub struct Hearer<'a> {
     pub me: NodeId,
     pub nodes: u32,
+    pub ids: u32,
     pub keys: Option<&'a Keyring>,
 }
 
@@ -40,9 +42,10 @@ pub fn comes_back(
     bytes: &[u8],
     coming: Coming,
 ) -> Result<Came, Memory>
-    requires { IsLawfulErrand hearer.now.nodes errand }
+    requires errand { IsLawfulErrand hearer.now.nodes errand }
+    requires ids { hearer.now.ids ≤ hearer.now.nodes }
     ensures came { IfOk result (λ came. (reading : Result Reply HttpFault) × IsReading bytes.now coming reading
-        × HadMemory reading × (came ≡ comes_back hearer.now.me hearer.now.nodes (option_map (λ k. k.now) hearer.now.keys) errand reading)) }
+        × HadMemory reading × (came ≡ comes_back hearer.now.me hearer.now.ids (option_map (λ k. k.now) hearer.now.keys) errand reading)) }
     ensures lawful { IfOk result (IsLawfulCame hearer.now.nodes hearer.now.me) }
 {
     let reply = read_in_place(heads, bytes, coming);
@@ -118,8 +121,9 @@ fn input_of(
     taken: bool,
 ) -> Result<Option<Input>, Memory>
     requires peer { IsNode hearer.now.nodes peer }
+    requires ids { hearer.now.ids ≤ hearer.now.nodes }
     requires taken { taken ≡ is_taken (option_map (λ k. k.now) hearer.now.keys) (reading reply) }
-    ensures input { IfOk result (λ input. input ≡ input_of hearer.now.me hearer.now.nodes (option_map (λ k. k.now) hearer.now.keys) peer (reading reply.entry)) }
+    ensures input { IfOk result (λ input. input ≡ input_of hearer.now.me hearer.now.ids (option_map (λ k. k.now) hearer.now.keys) peer (reading reply.entry)) }
     ensures memory { OnOk result (HadMemory (reading reply.entry)) }
     ensures lawful { IfOk result (λ input. IfSome input (IsInput hearer.now.nodes hearer.now.me)) }
 {
@@ -139,8 +143,9 @@ fn input_of_reply(
     brings: bool,
 ) -> Result<Option<Input>, Memory>
     requires peer { IsNode hearer.now.nodes peer }
+    requires ids { hearer.now.ids ≤ hearer.now.nodes }
     requires brings { brings ≡ brings_message (option_map (λ k. k.now) hearer.now.keys) (reply_in reply.now) }
-    ensures input { IfOk result (λ input. input ≡ input_of_reply hearer.now.me hearer.now.nodes (option_map (λ k. k.now) hearer.now.keys) peer (reply_in reply.now)) }
+    ensures input { IfOk result (λ input. input ≡ input_of_reply hearer.now.me hearer.now.ids (option_map (λ k. k.now) hearer.now.keys) peer (reply_in reply.now)) }
     ensures lawful { IfOk result (λ input. IfSome input (IsInput hearer.now.nodes hearer.now.me)) }
 {
     if reply.head.status == 204 {
@@ -167,8 +172,9 @@ fn message_in(
     reply: &ReplyInPlace,
     brings: bool,
 ) -> Result<Option<Message>, Memory>
-    requires { brings ≡ brings_message (option_map (λ k. k.now) hearer.now.keys) (reply_in reply.now) }
-    ensures message { IfOk result (λ message. message ≡ message_in hearer.now.me hearer.now.nodes (option_map (λ k. k.now) hearer.now.keys) (reply_in reply.now)) }
+    requires ids { hearer.now.ids ≤ hearer.now.nodes }
+    requires brings { brings ≡ brings_message (option_map (λ k. k.now) hearer.now.keys) (reply_in reply.now) }
+    ensures message { IfOk result (λ message. message ≡ message_in hearer.now.me hearer.now.ids (option_map (λ k. k.now) hearer.now.keys) (reply_in reply.now)) }
     ensures lawful { IfOk result (λ message. IfSome message (λ m. IsInput hearer.now.nodes hearer.now.me (Input.Delivered m))) }
 {
     if brings {
@@ -180,10 +186,11 @@ fn message_in(
 
 /// The message to this node that these bytes are, if they are one.
 fn message_to(alloc: Global, hearer: &Hearer<'_>, bytes: &[u8]) -> Result<Option<Message>, Memory>
-    ensures message { IfOk result (λ message. message ≡ message_to hearer.now.me (decoded hearer.now.nodes bytes.now)) }
+    requires { hearer.now.ids ≤ hearer.now.nodes }
+    ensures message { IfOk result (λ message. message ≡ message_to hearer.now.me (decoded hearer.now.ids bytes.now)) }
     ensures lawful { IfOk result (λ message. IfSome message (λ m. IsInput hearer.now.nodes hearer.now.me (Input.Delivered m))) }
 {
-    match decode(alloc, bytes, hearer.nodes) {
+    match decode(alloc, bytes, hearer.ids) {
         Ok(message) => {
             if message.to == hearer.me {
                 Ok(Some(message))

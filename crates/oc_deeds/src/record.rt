@@ -13,40 +13,25 @@ use oc_replay::put_has_line;
 use oc_schedule::{EventList, Schedule, print};
 use std::alloc::Global;
 
-/// The lines of a node that begins, which is among nodes of these areas and holds these groups. `Memory` where
-/// it runs out.
-pub fn told_first(
-    alloc: Global,
-    log: Log,
-    node: &Node,
-    areas: &[u8],
-    shelf: &[Shelf],
-) -> Result<Vec<u8>, Memory>
-    requires { areas.now ≡ node.now.control.areas }
+/// The lines of a node that begins, and holds these groups. `Memory` where it runs out.
+pub fn told_first(alloc: Global, log: Log, node: &Node, shelf: &[Shelf]) -> Result<Vec<u8>, Memory>
     ensures { IfOk result (λ text. text.items ≡ told_first log node.now.control shelf.now) }
 {
     let mut text = Vec::new(alloc);
     match log {
         Log::Inputs => {}
-        Log::Record => put_head(alloc, &mut text, node, areas, shelf)?,
+        Log::Record => put_head(alloc, &mut text, node, shelf)?,
         Log::Brief => put_place(&mut text, node)?,
     }
     Ok(text)
 }
 
 /// Puts the beginning of a record.
-fn put_head(
-    alloc: Global,
-    out: &mut Vec<u8>,
-    node: &Node,
-    areas: &[u8],
-    shelf: &[Shelf],
-) -> Result<(), Memory>
-    requires { areas.now ≡ node.now.control.areas }
+fn put_head(alloc: Global, out: &mut Vec<u8>, node: &Node, shelf: &[Shelf]) -> Result<(), Memory>
     ensures { OnOk result (out.new.items ≡ out.old.items ++ record_head node.now.control shelf.now) }
 {
     put(out, b"#\n")?;
-    put_network(alloc, out, node, areas)?;
+    put_network(alloc, out, node)?;
     put_up_line(out, node.id())?;
     put_has_line(alloc, out, node, shelf)
 }
@@ -60,8 +45,7 @@ fn put_up_line(out: &mut Vec<u8>, me: NodeId) -> Result<(), Memory>
 }
 
 /// Puts the header of the network of a node, and its areas.
-fn put_network(alloc: Global, out: &mut Vec<u8>, node: &Node, areas: &[u8]) -> Result<(), Memory>
-    requires { areas.now ≡ node.now.control.areas }
+fn put_network(alloc: Global, out: &mut Vec<u8>, node: &Node) -> Result<(), Memory>
     ensures { OnOk result (out.new.items ≡ out.old.items ++ network_text (network_of node.now.control)) }
 {
     let schedule = Schedule {
@@ -71,7 +55,7 @@ fn put_network(alloc: Global, out: &mut Vec<u8>, node: &Node, areas: &[u8]) -> R
                 chain: node.chain(),
                 chunk: node.chunk(),
             },
-            areas: copy(alloc, areas)?,
+            areas: copy(alloc, node.areas())?,
         },
         events: EventList::new(alloc),
     };

@@ -1,11 +1,15 @@
 //! What a node does with its configuration when it was read again.
 
-ghost use Rattle.std.specs.Prelude.{◌≡◌, ◌≤◌, All, IfErr, IfOk, IfSome, OnOk, Result, false, filter, length, option_map};
-ghost use Rattle.oc_base.specs.declared.limits.TheConstants.{MAX_NODES as MOST_NODES};
+ghost use Rattle.std.specs.Prelude.{◌≡◌, ◌≤◌, All, ℕ, true, IfErr, IfOk, IfSome, OnOk, Result, false, filter, length, option_map};
+ghost use Rattle.std.specs.List.{AllByRecursion};
+ghost use Rattle.oc_base.specs.declared.limits.TheConstants.{MAX_AREA, MAX_NODES as MOST_NODES};
+ghost use Rattle.oc_config.specs.Changes.{Stays};
 ghost use Rattle.oc_config.specs.Reading.{IsConfig};
 ghost use Rattle.oc_updown.specs.MeasureLines.{IsMeasure};
+ghost use Rattle.oc_deeds.specs.Areas.{areas_among};
 ghost use Rattle.oc_deeds.specs.Lawful.{IsMadeFor};
-ghost use Rattle.oc_deeds.specs.Rereading.{IsLawfulReread, MeansLook, MeansNew, MeansText, fitting, fresh, goes_by, is_fresh, is_last, is_placed, last_read, measured_by, probing_by, rotated_to, settles, takes_measures};
+ghost use Rattle.oc_deeds.specs.Records.{is_record};
+ghost use Rattle.oc_deeds.specs.Rereading.{IsLawfulReread, MeansLook, MeansNew, MeansText, fitting_for, fresh, goes_by, is_fresh, is_last, is_placed, last_read, measured_by, probing_by, rotated_to, settles, takes_measures};
 ghost use Rattle.oc_deeds.specs.Telling.{takes_ahead};
 ghost use Rattle.oc_deeds.specs.declared.reread.Reread.TheVariants as rereads;
 
@@ -94,7 +98,7 @@ pub fn goes_by<W: Doer>(
     requires reread { IsLawfulReread reread }
     requires probing { IfSome probing.old (IsMadeFor (W.running doer.old).node.control.nodes) }
     ensures did { OnOk result (W.does (goes_by reread) doer.old doer.new) }
-    ensures probing { OnOk result (probing.new ≡ probing_by (W.setting doer.old).me (W.running doer.old).config reread probing.old) }
+    ensures probing { OnOk result (probing.new ≡ probing_by (W.setting doer.old) (W.running doer.old).config reread probing.old) }
     ensures made { OnOk result (IfSome probing.new (IsMadeFor (W.running doer.old).node.control.nodes)) }
     ensures breaks { IfErr result (λ end. W.stops end (goes_by reread) doer.old doer.new) }
 {
@@ -117,7 +121,7 @@ fn goes_by_if<W: Doer>(
     requires config { IsConfig config }
     requires probing { IfSome probing.old (IsMadeFor (W.running doer.old).node.control.nodes) }
     ensures did { OnOk result (W.does (goes_by (rereads.Config config)) doer.old doer.new) }
-    ensures probing { OnOk result (probing.new ≡ probing_by (W.setting doer.old).me (W.running doer.old).config (rereads.Config config) probing.old) }
+    ensures probing { OnOk result (probing.new ≡ probing_by (W.setting doer.old) (W.running doer.old).config (rereads.Config config) probing.old) }
     ensures made { OnOk result (IfSome probing.new (IsMadeFor (W.running doer.old).node.control.nodes)) }
     ensures breaks { IfErr result (λ end. W.stops end (goes_by (rereads.Config config)) doer.old doer.new) }
 {
@@ -125,25 +129,26 @@ fn goes_by_if<W: Doer>(
     W::parts_stop();
     W::is_lawful();
     let me = doer.node().id();
-    match fitting(me, doer.config(), config) {
+    let recorded = doer.log().is_record();
+    let running = Running { me, recorded };
+    match fitting(running, doer.config(), config) {
         Ok(config) => changes(doer, probing, config),
         Err(why) => doer.keeps(why),
     }
 }
 
 /// The new configuration, or why the node goes on by the old one.
-fn fitting(me: NodeId, old: &Config, new: Config) -> Result<Config, Unfit>
+fn fitting(running: Running, old: &Config, new: Config) -> Result<Config, Unfit>
     requires { IsConfig new }
-    ensures fitting { result ≡ fitting me old.now new }
+    ensures fitting { result ≡ fitting_for running old.now new }
     ensures lawful { IfOk result IsConfig }
-    ensures nodes { IfOk result (λ config. length config.addresses ≡ length old.now.addresses) }
+    ensures stays { IfOk result (λ config. Stays running old.now config) }
 {
-    if !is_placed(me, &new) {
+    if !is_placed(running.me, &new) {
         return Err(Unfit::Stranger);
     }
     a_change_keeps_the_network();
-    let changing = Running { me, recorded: true };
-    match config_change(changing, old, new) {
+    match config_change(running, old, new) {
         Ok(config) => Ok(config),
         Err(key) => Err(Unfit::Restart(key)),
     }
@@ -167,7 +172,8 @@ fn changes<W: Doer>(
 ) -> Result<(), TurnEnd>
     requires serving { W.serving doer.old }
     requires config { IsConfig config }
-    requires nodes { length config.addresses ≡ (W.running doer.old).node.control.nodes }
+    requires nodes { length config.addresses ≤ (W.running doer.old).node.control.nodes }
+    requires areas { is_record (W.setting doer.old).log ≡ true → areas_among (W.running doer.old).node.control.nodes config.areas ≡ (W.running doer.old).node.control.areas }
     requires probing { IfSome probing.old (IsMadeFor (W.running doer.old).node.control.nodes) }
     ensures did { OnOk result (W.does (settles (Result.Ok config) (W.running doer.old).config) doer.old doer.new) }
     ensures probing { OnOk result (probing.new ≡ option_map (rotated_to (W.setting doer.old).me config) probing.old) }
@@ -180,8 +186,9 @@ fn changes<W: Doer>(
     doer.may_end();
     let me = doer.node().id();
     let fresh = fresh(doer.alloc(), me, doer.config(), &config)?;
+    let areas = areas_for(doer.alloc(), doer.node().nodes(), &config)?;
     reroute(doer.alloc(), probing, me, &config)?;
-    doer.rereads(config);
+    doer.rereads(config, areas);
     takes_measures(doer, &fresh)
 }
 
@@ -216,6 +223,34 @@ fn is_fresh(me: NodeId, old: &[Measure], measure: Measure) -> bool
     measure.from == me && !has_measure(measure, old)
 }
 
+/// The areas of a configuration, for this many nodes.
+pub fn areas_for(alloc: Global, nodes: u32, config: &Config) -> Result<Vec<u8>, Memory>
+    requires { length config.now.areas ≤ nodes }
+    ensures same { IfOk result (λ made. made.items ≡ areas_among nodes config.now.areas) }
+    ensures bytes { IfOk result (λ made. AllByRecursion (λ a. a ≤ MAX_AREA) made.items) }
+    ensures many { IfOk result (λ made. length made.items ≡ nodes) }
+{
+    areas_among(alloc, nodes, &config.areas)
+}
+
+/// These areas for this many nodes, copied one by one: each that is read is within its range. An id without an area has 0.
+fn areas_among(alloc: Global, nodes: u32, areas: &[u8]) -> Result<Vec<u8>, Memory>
+    requires { length areas.now ≤ nodes }
+    ensures same { IfOk result (λ made. made.items ≡ areas_among nodes areas.now) }
+    ensures bytes { IfOk result (λ made. AllByRecursion (λ a. a ≤ MAX_AREA) made.items) }
+    ensures many { IfOk result (λ made. length made.items ≡ nodes) }
+{
+    let mut made = Vec::with_capacity(alloc, nodes as usize)?;
+    for area in areas {
+        made.push(*area)?;
+    }
+    let others = nodes as usize - areas.len();
+    for _ in 0..others {
+        made.push(0)?;
+    }
+    Ok(made)
+}
+
 /// Probes the peers that have an address by now, from the first one on.
 fn reroute(
     alloc: Global,
@@ -224,9 +259,8 @@ fn reroute(
     config: &Config,
 ) -> Result<(), Memory>
     requires config { length config.now.addresses ≤ MOST_NODES }
-    requires probing { IfSome probing.old (IsMadeFor (length config.now.addresses)) }
     ensures rerouted { OnOk result (probing.new ≡ option_map (rotated_to me config.now) probing.old) }
-    ensures made { OnOk result (IfSome probing.new (IsMadeFor (length config.now.addresses))) }
+    ensures made { OnOk result ((nodes : ℕ) → length config.now.addresses ≤ nodes → IfSome probing.old (IsMadeFor nodes) → IfSome probing.new (IsMadeFor nodes)) }
 {
     if let Some(probing) = probing {
         probing.rotation = Rotation::new(alloc, me, &config.addresses)?;

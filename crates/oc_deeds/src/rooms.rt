@@ -32,7 +32,8 @@ fn work_on(works: &[Work], connection: ConnectionId) -> Option<&Work>
 }
 
 /// Whether the request of a connection that is over had an input, so that a line says if its reply was not sent. Where no
-/// work is left on the connection it had one: only then the link was asked to watch such a connection.
+/// work is left on the connection, a request had one whose reply was given whole: only then the link was asked to watch
+/// such a connection.
 pub fn is_told(works: &[Work], connection: ConnectionId) -> bool
     ensures { result ≡ is_told (work_on connection works.now) }
 {

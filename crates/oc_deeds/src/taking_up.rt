@@ -3,7 +3,7 @@
 ghost use Rattle.std.specs.Prelude.{◌≡◌, ℕ, IfErr, IfOk, IfSome, OnOk, Some, slice_get};
 ghost use Rattle.oc_base.specs.Lawful.{IsNode, IsRate};
 ghost use Rattle.oc_model.specs.Lawful.{IsInput};
-ghost use Rattle.oc_routes.specs.Lawful.{IsAsked};
+ghost use Rattle.oc_routes.specs.Lawful.{IsAsking};
 ghost use Rattle.oc_deeds.specs.Asks.{takes_up, wakes};
 ghost use Rattle.oc_deeds.specs.Turns.{takes_brought, takes_measure, notes_fault, probes_it, ticked, ticks_if};
 ghost use Rattle.oc_deeds.specs.Works.{client_input};
@@ -41,14 +41,14 @@ pub fn takes_up<W: Doer>(doer: &mut W, index: usize, now: u64) -> Result<(), Tur
 /// Answers a client that waits.
 fn wakes<W: Doer>(doer: &mut W, pending: Pending, now: u64) -> Result<(), TurnEnd>
     requires serving { W.serving doer.old }
-    requires asks { IsAsked pending.asked.operation }
-    requires input { IfSome (client_input pending.asked.operation pending.asked.hint) (IsInput (W.running doer.old).node.control.nodes (W.running doer.old).node.control.me) }
+    requires asks { IsAsking pending.asked }
+    requires input { IfSome (client_input pending.asked) (IsInput (W.running doer.old).node.control.nodes (W.running doer.old).node.control.me) }
     ensures did { OnOk result (W.does (wakes pending now) doer.old doer.new) }
     ensures breaks { IfErr result (λ end. W.stops end (wakes pending now) doer.old doer.new) }
 {
     W::parts_go_on();
     W::parts_stop();
-    let input = client_input(&pending.asked.operation, pending.asked.hint);
+    let input = client_input(&pending.asked);
     // A request for content does not hurry the next tick.
     let _hurries = responds(doer, pending, input, now)?;
     Ok(())

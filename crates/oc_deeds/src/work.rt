@@ -1,9 +1,10 @@
 ghost use Rattle.std.specs.Prelude.{◌≡◌};
-ghost use Rattle.oc_deeds.specs.Works.{client_input, pending};
+ghost use Rattle.oc_deeds.specs.Works.{client_input, input_asked, pending};
 
 use oc_link::ConnectionId;
 use oc_model::Input;
 use oc_routes::{Asked, Hint, Operation, Request, UnderWay};
+use oc_select::Selection;
 
 /// A content under way on a connection.
 #[derive(Clone, Copy, Debug)]
@@ -36,7 +37,7 @@ pub struct Pending {
 
 /// A request of a client that follows a group and has all of its bytes. The input of the request is not kept, but made when
 /// it is taken.
-#[derive(Debug, Drop)]
+#[derive(Drop)]
 pub struct Waiting {
     pub connection: ConnectionId,
     pub request: Request,
@@ -59,9 +60,24 @@ pub fn pending_of(connection: ConnectionId, request: &Request, told: bool, waite
     }
 }
 
-/// The input of a client that asks for a group; none where the node is to answer itself.
-pub fn client_input(operation: &Operation, hint: Hint) -> Option<Input>
-    ensures { result ≡ client_input operation.now hint }
+/// The input of a client that asks for a group; none where the node is to answer itself, or a condition answers.
+pub fn client_input(asked: &Asked) -> Option<Input>
+    ensures { result ≡ client_input asked.now }
+{
+    if asked.hint == Hint::Here {
+        return None;
+    }
+    match asked.selection {
+        Selection::NotModified | Selection::PreconditionFailed => None,
+        Selection::Whole | Selection::Part { .. } | Selection::Unsatisfiable => {
+            input_asked(&asked.operation)
+        }
+    }
+}
+
+/// The input of a client that asks for a group.
+fn input_asked(operation: &Operation) -> Option<Input>
+    ensures { result ≡ input_asked operation.now }
 {
     match operation {
         Operation::Client {
@@ -69,22 +85,17 @@ pub fn client_input(operation: &Operation, hint: Hint) -> Option<Input>
             area,
             start,
             ..
-        } => {
-            if hint == Hint::Here {
-                return None;
-            }
-            Some(Input::Client {
-                area: *area,
-                start: *start,
-                group: *group,
-            })
-        }
+        } => Some(Input::Client {
+            area: *area,
+            start: *start,
+            group: *group,
+        }),
         _ => None,
     }
 }
 
 /// The work on a connection.
-#[derive(Debug, Drop)]
+#[derive(Drop)]
 pub enum Work {
     /// A content, whose next piece is given when there is room.
     Content(Transfer),

@@ -8,7 +8,7 @@ use std::alloc::Global;
 use std::marker::Model;
 
 /// The works of a node, the oldest first.
-#[derive(Debug, Drop)]
+#[derive(Drop)]
 pub struct Works {
     list: Vec<Work>,
 }

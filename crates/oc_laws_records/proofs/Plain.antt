@@ -22,10 +22,13 @@ use Rattle.oc_routes.proofs.Bodies.{IsOfBody, IsOfRequest, of_body}
 use Rattle.oc_routes.specs.Askers.{asker_in, asker_of}
 use Rattle.oc_routes.specs.declared.asker.Asker.{Asker}
 use Rattle.oc_routes.specs.Conditions.{unmet}
-use Rattle.oc_routes.specs.Connections.{awaits_continue, is_last}
+use Rattle.oc_routes.specs.Connections.{awaits_continue, is_last, kept_after}
 use Rattle.oc_routes.specs.Hints.{asked_with_hint}
 use Rattle.oc_routes.specs.Macs.{is_forged}
 use Rattle.oc_routes.specs.Routes.{input_asked}
+use Rattle.oc_routes.specs.Selections.{input_by, line_of, selectors_for}
+use Rattle.oc_select.specs.declared.selection.Selection.{Selection}
+use Rattle.oc_select.specs.declared.selection.Selection.TheVariants as selections
 use Rattle.oc_routes.specs.Verdicts.{IsVerdict, NodeTerms, answered, fault_met, input_for, is_none, refuse, routed, taken, unfinished, unread, verdict_for, whole, with_body}
 use Rattle.oc_routes.specs.declared.fault.RouteFault.{RouteFault}
 use Rattle.oc_routes.specs.declared.fault.RouteFault.TheVariants as faults
@@ -43,7 +46,7 @@ use Rattle.oc_routes.specs.declared.verdict.Verdict.TheVariants as verdicts
 use Rattle.oc_routes.specs.declared.waiting.Prospect.{Prospect}
 use Rattle.oc_routes.specs.declared.waiting.Prospect.TheVariants as prospects
 use Rattle.oc_routes.specs.declared.tally.MessageFault.{MessageFault}
-use Rattle.oc_deeds.specs.Asks.{has_to_wait, obeys, refuses_or, responds, takes_on, takes_up, waiting}
+use Rattle.oc_deeds.specs.Asks.{has_to_wait, obeys, refuses_or, responds, settled_at, takes_on, takes_up, waiting}
 use Rattle.oc_deeds.specs.Brought.{comes_back, delivered_or, fault_of, input_of, input_of_reply, message_in, refused_of}
 use Rattle.oc_deeds.specs.Choices.{next_to_dial, prospect_of, wait_for}
 use Rattle.oc_deeds.specs.Deeds.{Deed, Looks, Reads, Running, Says, Sees, Setting, Takes, Tells, Waits, after, after_all, errand_in, Rejects, Rereads}
@@ -63,7 +66,7 @@ use Rattle.oc_deeds.specs.declared.unfit.Unfit.{Unfit}
 use Rattle.oc_deeds.specs.Telling.{takes_ahead}
 use Rattle.oc_deeds.specs.Turns as turns
 use Rattle.oc_deeds.specs.Turns.{terms_in, Means, MeansBack, Observation, takes_brought, takes_reply, deals, happens, measures, next_peer, probes_it, quickened, takes_at, takes_due, ticked, ticks, ticks_and_sends, ticks_if}
-use Rattle.oc_deeds.specs.Works.{client_input, pending, work_on}
+use Rattle.oc_deeds.specs.Works.{client_input, input_asked as input_of_client, pending, work_on}
 use Rattle.oc_deeds.specs.declared.came.Came.{Came}
 use Rattle.oc_deeds.specs.declared.came.Came.TheVariants as comes
 use Rattle.oc_deeds.specs.declared.choosing.TheConstants.{MAX_DIALS}
@@ -168,6 +171,8 @@ body_plain t x came head rest said = by_permit (awaits_continue head && not x.pe
     request = record {
       count = came - length rest + head.length;
       asked = said;
+      line = line_of head;
+      selectors = selectors_for said.operation head.selectors;
       input = None;
       last = is_last head x.number;
     }
@@ -175,7 +180,7 @@ body_plain t x came head rest said = by_permit (awaits_continue head && not x.pe
     body : List ℕ
     body = take head.length rest
 
-    by_mac : (b : Bool) → AsksPlainly (if b then refuse (asker_of head) refusals.Mac else answered head request (input_asked t.nodes t.me said.operation body))
+    by_mac : (b : Bool) → AsksPlainly (if b then refuse (asker_of head) (kept_after request.last request.count) refusals.Mac else answered head request (input_asked t.nodes t.me said.operation body))
     by_mac true = tt
     by_mac false = answered_plain head request (input_asked t.nodes t.me said.operation body) (asked_plain t.nodes t.me said.operation body)
 
@@ -209,16 +214,27 @@ plain_responds : (r : Pending) (input : Option Input) (now : ℕ) (s : Setting) 
 plain_responds r None now s a is = (tt, tt)
 plain_responds r (Some i) now s a is = (tt, (is, (tt, (tt, tt))))
 
+-- a request that selects keeps its input, or loses it
+kept_by : (chosen : Selection) (input : Option Input) → IfSome input IsOfRecord → IfSome (input_by chosen input) IsOfRecord
+kept_by selections.NotModified input is = tt
+kept_by selections.PreconditionFailed input is = tt
+kept_by selections.Whole input is = is
+kept_by (selections.Part start count) input is = is
+kept_by selections.Unsatisfiable input is = is
+
 taken_on : (c : ℕ) (request : Request) (now : ℕ) (s : Setting) (a : Running) → IfSome request.input IsOfRecord → ArePlain (takes_on c request now s a)
-taken_on c request now s a is = by_condition (unmet request.asked.operation a.node.control.me (shelf a.node.groups))
+taken_on c request now s a is = by_condition (unmet request a.node.control.me (shelf a.node.groups))
   where
-    by_test : (b : Bool) → ArePlain (if b then Waits (waiting c request now) ∷ [] else responds (pending c request (is_some request.input) false) request.input now s a)
+    here : Request
+    here = settled_at a.node.groups request
+
+    by_test : (b : Bool) → ArePlain (if b then Waits (waiting c here now) ∷ [] else responds (pending c here (is_some here.input) false) here.input now s a)
     by_test true = (tt, tt)
-    by_test false = plain_responds (pending c request (is_some request.input) false) request.input now s a is
+    by_test false = plain_responds (pending c here (is_some here.input) false) here.input now s a (kept_by here.asked.selection request.input is)
 
     by_condition : (why : Option Refusal) → ArePlain (refuses_or why c request now s a)
     by_condition (Some why) = (tt, tt)
-    by_condition None = by_test (has_to_wait request a.node)
+    by_condition None = by_test (has_to_wait here a.node)
 
 obeyed : (c count : ℕ) (v : Verdict) (now : ℕ) (s : Setting) (a : Running) → AsksPlainly v → ArePlain (obeys c count v now s a)
 obeyed c count verdicts.Wait now s a is = tt
@@ -306,17 +322,19 @@ happened t lent errand events.Quiet came means probing now median started s a =
 -- Turns
 
 -- the input of a client that waits
-client_plain : (asked : Operation) (hint : Hint) → IfSome (client_input asked hint) IsOfRecord
-client_plain (asks.Client group area start manner) hint = kept_for hint (Some (inputs.Client area start group)) tt
-client_plain other hint = tt
+client_plain : (asked : Asked) → IfSome (client_input asked) IsOfRecord
+client_plain asked = kept_by asked.selection (input_for asked.hint (input_of_client asked.operation)) (kept_for asked.hint (input_of_client asked.operation) (by_operation asked.operation))
+  where
+    by_operation : (operation : Operation) → IfSome (input_of_client operation) IsOfRecord
+    by_operation (asks.Client group area start manner) = tt
+    by_operation other = tt
 
 taken_up : (o : Option Work) (now : ℕ) (s : Setting) (a : Running) → ArePlain (takes_up o now s a)
 taken_up None now s a = tt
 taken_up (Some (works.Content p)) now s a = tt
 taken_up (Some (works.Aside p)) now s a = plain_moves p now (prospect_of p (shelf a.node.groups) now)
 taken_up (Some (works.Waits w)) now s a =
-    plain_responds (pending w.connection w.request (is_some (client_input w.request.asked.operation w.request.asked.hint)) true) (client_input w.request.asked.operation w.request.asked.hint) now s a
-    (client_plain w.request.asked.operation w.request.asked.hint)
+    plain_responds (pending w.connection w.request (is_some (client_input w.request.asked)) true) (client_input w.request.asked) now s a (client_plain w.request.asked)
 
 plain_due : (pace : Pace) (o : Option Work) (before seconds : ℕ) (s : Setting) (a : Running) → ArePlain (takes_due pace o before seconds s a)
 plain_due pace o before seconds s a =
@@ -351,7 +369,7 @@ plain_settled (Ok new) old s a = (tt, plain_measured (fresh s.me old new) s (aft
 plain_by : (r : Reread) (s : Setting) (a : Running) → ArePlain (goes_by r s a)
 plain_by rereads.Nothing s a = tt
 plain_by (rereads.Unfit why) s a = (tt, tt)
-plain_by (rereads.Config new) s a = plain_settled (fitting s.me a.config new) a.config s a
+plain_by (rereads.Config new) s a = plain_settled (fitting s a.config new) a.config s a
 
 plain_looks : (look : Look) (r : Reread) (s : Setting) (a : Running) → ArePlain (looks_again look r s a)
 plain_looks look r s a = (tt, plain_by r s (after (Looks look) a))

@@ -17,13 +17,14 @@ use Rattle.oc_model.specs.Node.{Header, Node}
 use Rattle.oc_deeds.specs.Brief.{told_first}
 use Rattle.oc_deeds.specs.Deeds.{Accepts, Deed, Drops, Notes, Refuses, Says, Setting, Takes, inputs_of, lines, with_input}
 use Rattle.oc_deeds.specs.Recorded.{IsNext, IsRecorded, IsRecordOf, RecordLine, inputs_in, line_of_next, record_lines, record_text}
-use Rattle.oc_deeds.specs.Records.{record_head}
 use Rattle.oc_deeds.specs.Under.{Under}
 use Rattle.oc_deeds.specs.Within.{IsWithin}
 use Rattle.oc_deeds.specs.declared.ends.TurnEnd.{TurnEnd}
+use Rattle.oc_deeds.specs.Records.{is_record, record_head}
+use Rattle.oc_deeds.specs.declared.log.Log.{Log}
 use Rattle.oc_deeds.specs.declared.log.Log.TheVariants.{Record}
 use Rattle.oc_deeds.specs.Turns.{terms_in}
-use Rattle.oc_service.specs.OnSite.{DidOn, StoppedOn, header_of_settings, heard_before, machine_on, setting_of}
+use Rattle.oc_service.specs.OnSite.{DidOn, StoppedOn, header_by, header_for, heard_before, machine_on, setting_of}
 use Rattle.oc_service.specs.WhatNodeDoes.{Machine, begun, own_measures, turns_deeds, machine_after}
 use Rattle.oc_service.specs.WhatNodeHears.{all_calls_after}
 use Rattle.oc_service.specs.declared.running.Task.{Task}
@@ -135,7 +136,11 @@ recorded_of s n (x ∷ ds) behind d more log begins is = is log
 module _ {D L K : Type 0} (view : D → DiskView) (story : L → Option (List Call)) (counts : L → LinkCounts) (takes fails : K → List ℕ → K → Type 0) (c : Settings) (task : Task) (old new : Disks D) (link after : L) (sink written : K)
     (node : IsNode (length c.addresses) task.me) (log : task.log ≡ Record) (honest : AreHonest view old) where
   abbrev network : Header
-  network = header_of_settings c
+  network = header_for task c
+
+  -- it has the nodes of the configuration
+  node_in : IsNode network.nodes task.me
+  node_in = subst (λ (l : Log). IsNode (header_by (is_record l) c).nodes task.me) (sym log) node
 
   abbrev first : Node
   first = first_node view network task.me old
@@ -149,7 +154,7 @@ module _ {D L K : Type 0} (view : D → DiskView) (story : L → Option (List Ca
   pub whole_run : (deeds : List Deed) → DidOn view story counts takes c task deeds old new link after sink written → IsLawfulRunOf network s first deeds
   whole_run deeds did =
       let m : Machine = machine_on view c task old in
-      whole_run_of network s first refl refl node deeds
+      whole_run_of network s first refl refl node_in deeds
       (recorded_of s first deeds [] (Says (told_first s.log first.control (shelf first.groups))) (own_measures s c.measures ++ turns_deeds s did.told (begun s c.measures m)) log (did.are honest) (did.recorded honest))
       did.within (subst (λ (ds : List Deed). ArePlain ds) (sym (did.are honest)) (node_plain s heard_from c.measures did.told m (did.heard honest)))
 
@@ -157,6 +162,6 @@ module _ {D L K : Type 0} (view : D → DiskView) (story : L → Option (List Ca
       → IsCutRunOf network s first (d ∷ ds) (stopped.cut honest).behind
   cut_run end d ds under stopped =
       let m : Machine = machine_on view c task old in
-      cut_run_of network s first refl refl node (d ∷ ds) (stopped.cut honest).behind (stopped.recorded honest log) stopped.within
+      cut_run_of network s first refl refl node_in (d ∷ ds) (stopped.cut honest).behind (stopped.recorded honest log) stopped.within
       (front_plain s (terms_in s (machine_after s c.measures stopped.told m).running) heard_from c.measures stopped.told stopped.last m (stopped.heard honest) (d ∷ ds) (stopped.cut honest).behind
       (all_calls_after s stopped.told (begun s c.measures m) heard_from) (stopped.cut honest).front (stopped.last_heard honest))

@@ -9,7 +9,7 @@ ghost use Rattle.oc_deeds.specs.Under.{Under};
 ghost use Rattle.oc_deeds.specs.Turns.{Observation};
 ghost use Rattle.oc_deeds.specs.declared.ends.TurnEnd.{TurnEnd};
 ghost use Rattle.oc_deeds.specs.declared.log.Log.TheVariants.{Record as RecordLog};
-ghost use Rattle.oc_service.specs.OnSite.{DidOn, StoppedOn, header_of_settings, setting_of};
+ghost use Rattle.oc_service.specs.OnSite.{DidOn, StoppedOn, header_for, setting_of};
 ghost use Rattle.oc_service.specs.WhatNodeDoes.{Machine, begun, node_deeds};
 ghost use Rattle.oc_service.specs.WhatNodeHears.{AreHeard};
 ghost use Rattle.oc_service.specs.declared.running.Task.{Task};
@@ -35,9 +35,9 @@ pub fn nodes_write_lawful_runs<D: Disk, L: Link, K: Sink>()
     ensures whole { (c : Settings) (task : Task) (deeds : List Deed) (old new : Disks D) (link after : L) (sink written : K)
         → IsNode (length c.addresses) task.me → task.log ≡ RecordLog → AreHonest D.view old
         → DidOn D.view L.story L.counts K.takes c task deeds old new link after sink written
-        → IsLawfulRunOf (header_of_settings c) (setting_of task) (first_node D.view (header_of_settings c) task.me old) deeds }
+        → IsLawfulRunOf (header_for task c) (setting_of task) (first_node D.view (header_for task c) task.me old) deeds }
     ensures cut { (c : Settings) (task : Task) (end : TurnEnd) (d : Deed) (ds : List Deed) (under : Under) (old new : Disks D) (link after : L) (sink written : K)
         → IsNode (length c.addresses) task.me → task.log ≡ RecordLog → (honest : AreHonest D.view old)
         → (stopped : StoppedOn D.view L.story L.counts K.takes K.fails c task end (d ∷ ds) under old new link after sink written)
-        → IsCutRunOf (header_of_settings c) (setting_of task) (first_node D.view (header_of_settings c) task.me old) (d ∷ ds) (stopped.cut honest).behind }
+        → IsCutRunOf (header_for task c) (setting_of task) (first_node D.view (header_for task c) task.me old) (d ∷ ds) (stopped.cut honest).behind }
 {}

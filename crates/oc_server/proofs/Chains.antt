@@ -1,20 +1,18 @@
 -- The node after deeds.
 use Rattle.std.proofs.Common.{◌≡◌, List, [], ◌∷◌, ◌++◌, refl, sym, ap, ◌∙◌}
-use Rattle.oc_keep.specs.Trials.{after_inputs}
-use Rattle.oc_model.specs.declared.input.Input.{Input}
 use Rattle.oc_model.specs.Node.{Node}
-use Rattle.oc_model.specs.Step.{step}
-use Rattle.oc_deeds.specs.Deeds.{Deed, Running, after, after_all, deed_input, inputs_of, with_input}
+use Rattle.oc_deeds.specs.Changes.{Change, after_change, after_changes, changes_of, deed_change, with_change}
+use Rattle.oc_deeds.specs.Deeds.{Deed, Running, after, after_all}
 use Rattle.oc_deeds.specs.Deeds as deeds
-use Rattle.oc_server.proofs.Moments.{taken_first}
+use Rattle.oc_server.proofs.Moments.{changed_first}
 
--- inputs after inputs
-pub fold_append : (n : Node) (is js : List Input) → after_inputs n (is ++ js) ≡ after_inputs (after_inputs n is) js
-fold_append n [] js = refl
-fold_append n (i ∷ is) js = fold_append (step n i).node is js
+-- changes after changes
+pub fold_append : (n : Node) (cs more : List Change) → after_changes n (cs ++ more) ≡ after_changes (after_changes n cs) more
+fold_append n [] more = refl
+fold_append n (c ∷ cs) more = fold_append (after_change n c) cs more
 
 -- the node after a deed
-node_behind : (d : Deed) (a : Running) → (after d a).node ≡ after_inputs a.node (with_input (deed_input d) [])
+node_behind : (d : Deed) (a : Running) → (after d a).node ≡ after_changes a.node (with_change (deed_change d) [])
 node_behind (deeds.Sees e wait bytes) a = refl
 node_behind (deeds.Reads t) a = refl
 node_behind (deeds.Tells t) a = refl
@@ -37,8 +35,8 @@ node_behind (deeds.Looks look) a = refl
 node_behind (deeds.Rereads config) a = refl
 node_behind (deeds.Keeps why) a = refl
 
--- the node after deeds is the fold of their inputs
-pub nodes_behind : (ds : List Deed) (a : Running) → (after_all ds a).node ≡ after_inputs a.node (inputs_of ds)
+-- the node after deeds is the fold of their changes
+pub nodes_behind : (ds : List Deed) (a : Running) → (after_all ds a).node ≡ after_changes a.node (changes_of ds)
 nodes_behind [] a = refl
 nodes_behind (d ∷ ds) a =
-    nodes_behind ds (after d a) ∙ ap (λ (n : Node). after_inputs n (inputs_of ds)) (node_behind d a) ∙ sym (taken_first a.node (deed_input d) (inputs_of ds))
+    nodes_behind ds (after d a) ∙ ap (λ (n : Node). after_changes n (changes_of ds)) (node_behind d a) ∙ sym (changed_first a.node (deed_change d) (changes_of ds))

@@ -18,3 +18,4 @@ pub mod LookingAgain
 pub mod Probings
 pub mod Serves
 pub mod TurnsOrdered
+pub mod RecordedNodes

@@ -1,9 +1,10 @@
--- Looks, and inputs between them.
+-- Looks, and changes between them.
 use Rattle.std.proofs.Common.{◌≡◌, ℕ, false, List, [], ◌∷◌, ◌++◌, refl, ap, subst, ◌∙◌, arith}
 use Rattle.oc_keep.specs.Files.{Disks, AllGoOn, Survives}
-use Rattle.oc_keep.specs.KeptView.{IsHonest, KeptView, NodeSurvives, disks_of, header_of, node_of}
+use Rattle.oc_keep.specs.KeptView.{IsHonest, KeptView, NodeSurvives, disks_of, going_by, header_of, node_of, sizes_of}
 use Rattle.oc_keep.specs.Calls.{StaysTheSame}
-use Rattle.oc_keep.specs.Promises.{IsSameNode}
+use Rattle.oc_keep.specs.Promises.{IsSameNode, IsSameSeat}
+use Rattle.oc_keep.proofs.Areas.{among}
 use Rattle.oc_keep.proofs.Runs.{all_go_on_then, one_rose_after}
 use Rattle.oc_keep.proofs.Stays.{all_honest}
 use Rattle.oc_model.specs.declared.input.Input.{Input}
@@ -11,6 +12,8 @@ use Rattle.oc_model.specs.Node.{Control, Header, Node}
 use Rattle.oc_node.specs.OutcomeView.{OutcomeView}
 use Rattle.oc_io.specs.DiskView.{DiskView}
 use Rattle.oc_io.specs.Faults.{NoFall}
+use Rattle.oc_deeds.specs.Areas.{areas_among}
+use Rattle.oc_deeds.specs.Changes.{ByAreas, ByInput, Change}
 use Rattle.oc_server.proofs.Moments.{looks_on, one_look}
 use Rattle.oc_server.specs.Looks.{LookCause, LooksOn, LooksOnly, LookStops, LooksUntil}
 use Rattle.oc_server.specs.Scenes.{KeepsAll, KeepsOne}
@@ -28,6 +31,15 @@ go_on_none view d = record {
 -- a statement about the node of one moment holds of the same node at another
 pub named : (P : Header → ℕ → Type 0) → {D : Type 0} → (old new : KeptView D) → IsSameNode old.node.control new.node.control → P (header_of new.node.control) new.node.control.me → P (header_of old.node.control) old.node.control.me
 named P old new same p = subst (λ (me : ℕ). P (header_of old.node.control) me) same.me (subst (λ (h : Header). P h new.node.control.me) same.header p)
+
+-- and so does one that is the same for all areas, where these may be others
+pub seated : (P : Header → ℕ → Type 0) → ((areas : List ℕ) (h : Header) (me : ℕ) → P h me → P (among areas h) me) → {D : Type 0} → (old new : KeptView D) → IsSameSeat old.node.control new.node.control
+    → P (header_of new.node.control) new.node.control.me → P (header_of old.node.control) old.node.control.me
+seated P moves old new same p =
+    let bare : P (sizes_of new.node.control) new.node.control.me = moves [] (header_of new.node.control) new.node.control.me p in
+    let here : P (sizes_of old.node.control) new.node.control.me = subst (λ (h : Header). P h new.node.control.me) same.header bare in
+    let back : P (header_of old.node.control) new.node.control.me = moves old.node.control.areas (sizes_of old.node.control) new.node.control.me here in
+    subst (λ (me : ℕ). P (header_of old.node.control) me) same.me back
 
 module _ {D : Type 0} (view : D → DiskView) where
   -- no look
@@ -54,22 +66,28 @@ module _ {D : Type 0} (view : D → DiskView) where
   }
 
   -- one input
-  pub keeps_one : (i : Input) (outcome : OutcomeView) (old new : KeptView D) → old.closed ≡ false → KeepsOne view i outcome old new → KeepsAll view (i ∷ []) old new
+  pub keeps_one : (i : Input) (outcome : OutcomeView) (old new : KeptView D) → old.closed ≡ false → KeepsOne view i outcome old new → KeepsAll view (ByInput i ∷ []) old new
   keeps_one i outcome old new is_open keeps = (old, new, outcome, looks_none old is_open, keeps, looks_none new keeps.is_open)
 
-  -- inputs after inputs
-  pub keeps_then : (is js : List Input) (a b c : KeptView D) → KeepsAll view is a b → KeepsAll view js b c → KeepsAll view (is ++ js) a c
+  -- changes after changes
+  pub keeps_then : (cs more : List Change) (a b c : KeptView D) → KeepsAll view cs a b → KeepsAll view more b c → KeepsAll view (cs ++ more) a c
   keeps_then [] [] a b c p q = looks_then a b c p q
-  keeps_then [] (j ∷ js) a b c p (at, next, outcome, looks, one, rest) = (at, next, outcome, looks_then a b at p looks, one, rest)
-  keeps_then (i ∷ is) js a b c (at, next, outcome, looks, one, rest) q = (at, next, outcome, looks, one, keeps_then is js next b c rest q)
+  keeps_then [] (ByInput j ∷ more) a b c p (at, next, outcome, looks, one, rest) = (at, next, outcome, looks_then a b at p looks, one, rest)
+  keeps_then [] (ByAreas areas ∷ more) a b c p (at, looks, rest) = (at, looks_then a b at p looks, rest)
+  keeps_then (ByInput i ∷ cs) more a b c (at, next, outcome, looks, one, rest) q = (at, next, outcome, looks, one, keeps_then cs more next b c rest q)
+  keeps_then (ByAreas areas ∷ cs) more a b c (at, looks, rest) q = (at, looks, keeps_then cs more (going_by (areas_among at.node.control.nodes areas) at) b c rest q)
 
   -- the generation of files does not fall
-  pub keeps_no_fall : (is : List Input) (a b : KeptView D) → KeepsAll view is a b → IsHonest view a → NoFall a.store.generation b.store.generation
+  pub keeps_no_fall : (cs : List Change) (a b : KeptView D) → KeepsAll view cs a b → IsHonest view a → NoFall a.store.generation b.store.generation
   keeps_no_fall [] a b looks honest = looks.generation honest
-  keeps_no_fall (i ∷ is) a b (at, next, outcome, looks, one, rest) honest =
+  keeps_no_fall (ByInput i ∷ cs) a b (at, next, outcome, looks, one, rest) honest =
       let here = all_honest view (disks_of a) (disks_of at) looks.goes_on honest in
       let there = all_honest view (disks_of at) (disks_of next) one.goes_on here in
-      omega (arith, looks.generation honest, one.generation here, keeps_no_fall is next b rest there)
+      omega (arith, looks.generation honest, one.generation here, keeps_no_fall cs next b rest there)
+  keeps_no_fall (ByAreas areas ∷ cs) a b (at, looks, rest) honest =
+      let here = all_honest view (disks_of a) (disks_of at) looks.goes_on honest in
+      let more : NoFall at.store.generation b.store.generation = keeps_no_fall cs (going_by (areas_among at.node.control.nodes areas) at) b rest here in
+      omega (arith, looks.generation honest, more)
 
   -- the cause for which a look after a look ended
   look_cause : (end : TurnEnd) (a b c : KeptView D) → LooksOnly view a b → LookCause view end b c → LookCause view end a c

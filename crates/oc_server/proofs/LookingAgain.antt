@@ -113,10 +113,10 @@ module _ {D L K : Type 0} (view : D → DiskView) (takes fails : K → List ℕ 
       pace = λ honest. looked.pace ∙ handled.pace honest ∙ sym (pace_same (due_in old.server handled.told.before) old.pace handled.told looked.look looked.reread (node_of old.server.kept));
       probing = λ honest.
           looked.probing (honest_at handled honest)
-          ∙ ap (λ (s : Setting). probing_by s.me at.server.config looked.reread at.probing) (setting_stays view takes fails faults story counts old.server at.server handled.does.did.same handled.does.did.log)
-          ∙ ap (λ (c : Settings). probing_by (setting old.server).me c looked.reread at.probing) (config_is handled honest)
-          ∙ ap (λ (c : Settings). probing_by (setting old.server).me c looked.reread at.probing) (sym (config_same old handled.told looked.look looked.reread))
-          ∙ ap (λ (p : Option Probing). probing_by (setting old.server).me (config_at_look old told) looked.reread p)
+          ∙ ap (λ (s : Setting). probing_by s at.server.config looked.reread at.probing) (setting_stays view takes fails faults story counts old.server at.server handled.does.did.same handled.does.did.log)
+          ∙ ap (λ (c : Settings). probing_by (setting old.server) c looked.reread at.probing) (config_is handled honest)
+          ∙ ap (λ (c : Settings). probing_by (setting old.server) c looked.reread at.probing) (sym (config_same old handled.told looked.look looked.reread))
+          ∙ ap (λ (p : Option Probing). probing_by (setting old.server) (config_at_look old told) looked.reread p)
           (handled.probing honest ∙ sym (probing_same (due_in old.server handled.told.before) handled.told looked.look looked.reread old.server.dials old.probing));
       reading = looked.reading ∙ ap (λ (last : Option (List ℕ)). last_read looked.look last) handled.reading;
     }
@@ -183,7 +183,7 @@ module _ {D L K : Type 0} (view : D → DiskView) (takes fails : K → List ℕ 
       (look : Look) (does : Does view takes faults story counts (one (Looks look)) old.server b) where
     -- was gone by
     pub look_done : (reread : Reread) → Does view takes faults story counts (goes_by reread) b new.server → MeansLook old.reading look reread → new.reading ≡ last_read look old.reading → new.pace ≡ old.pace
-        → new.probing ≡ probing_by (setting b).me (running b).config reread old.probing → LooksAgain view takes faults story counts old new
+        → new.probing ≡ probing_by (setting b) (running b).config reread old.probing → LooksAgain view takes faults story counts old new
     look_done reread gone means reading pace probing = record {
       look = look;
       reread = reread;
@@ -193,8 +193,8 @@ module _ {D L K : Type 0} (view : D → DiskView) (takes fails : K → List ℕ 
       pace = pace;
       probing = λ honest.
           probing
-          ∙ ap (λ (s : Setting). probing_by s.me (running b).config reread old.probing) (setting_stays view takes fails faults story counts old.server b does.did.same does.did.log)
-          ∙ ap (λ (r : Running). probing_by (setting old.server).me r.config reread old.probing) (behind_part view takes fails faults story counts (one (Looks look)) old.server b does honest);
+          ∙ ap (λ (s : Setting). probing_by s (running b).config reread old.probing) (setting_stays view takes fails faults story counts old.server b does.did.same does.did.log)
+          ∙ ap (λ (r : Running). probing_by (setting old.server) r.config reread old.probing) (behind_part view takes fails faults story counts (one (Looks look)) old.server b does honest);
     }
 
     -- was gone by in part

@@ -1,5 +1,5 @@
 -- The addresses of a configuration are hosts.
-use Rattle.std.proofs.Common.{◌≡◌, ℕ, zero, suc, ◌-◌, ◌<◌, Bool, true, false, ◌&&◌, Option, Some, None, List, [], ◌∷◌, length, refl, arith, not, get_or}
+use Rattle.std.proofs.Common.{◌≡◌, ◌≤◌, ℕ, zero, suc, ◌-◌, ◌<◌, Bool, true, false, ◌&&◌, Option, Some, None, List, [], ◌∷◌, length, refl, arith, not, get_or}
 use Rattle.std.specs.Prelude.{IfSome, unwrap_or}
 use Rattle.oc_config.specs.Addresses as config
 use Rattle.oc_config.specs.Reading.{AllPassing, IsConfig}
@@ -27,8 +27,8 @@ host_at : (o : Option (List ℕ)) → IfSome o (λ text. config.is_reachable tex
 host_at None good some = absurd (omega (arith, some))
 host_at (Some text) good some = host_of text (both (config.is_address text) (not (config.is_everywhere text)) good).0
 
-pub placed : (s : Settings) → IsConfig s → IsPlaced (length s.addresses) s.addresses
-placed s c = record {
-  count = refl;
+pub placed : (nodes : ℕ) (s : Settings) → IsConfig s → length s.addresses ≤ nodes → IsPlaced nodes s.addresses
+placed nodes s c within = record {
+  count = within;
   hosts = λ x some. host_at (get_or s.addresses (x - 1) None) (reached_at s.addresses (x - 1) c.addresses) some;
 }

@@ -1,7 +1,7 @@
 -- The state kept for probes is still that of a node.
 use Rattle.std.proofs.Common.{◌≡◌, ℕ, Option, IfSome, List, sym, subst}
 use Rattle.oc_probe.specs.declared.probing.Probing.{Probing}
-use Rattle.oc_keep.specs.KeptView.{header_of}
+use Rattle.oc_keep.specs.KeptView.{sizes_of}
 use Rattle.oc_model.specs.Node.{Header}
 use Rattle.oc_deeds.specs.Lawful.{IsMadeFor}
 use Rattle.oc_server.specs.Lawful.{IsReady}
@@ -13,7 +13,7 @@ use Rattle.oc_server.specs.declared.turns.Turns.{Turns}
 use Rattle.oc_deeds.proofs.Probings.{made_probed}
 
 -- The node is ready for another turn
-module _ {D L K : Type 0} (old new : Turns D L K) (ready : IsReady old) (serving : IsServing new.server) (same : header_of new.server.kept.node.control ≡ header_of old.server.kept.node.control) where
+module _ {D L K : Type 0} (old new : Turns D L K) (ready : IsReady old) (serving : IsServing new.server) (same : sizes_of new.server.kept.node.control ≡ sizes_of old.server.kept.node.control) where
   ready_if : IfSome new.probing (IsMadeFor old.server.kept.node.control.nodes) → IsReady new
   ready_if made = record { serving = serving; probing = subst (λ (h : Header). IfSome new.probing (IsMadeFor h.nodes)) (sym same) made }
 

@@ -8,7 +8,7 @@ use Rattle.oc_server.specs.Looks.{LooksOnly}
 use Rattle.oc_server.specs.Parts.{Does}
 use Rattle.oc_deeds.specs.Parts.{nothing}
 use Rattle.oc_server.specs.declared.server.Server.{Server}
-use Rattle.oc_server.proofs.Lawful.{lawful_of}
+use Rattle.oc_server.proofs.Lawful.{lawful_of, seat_of}
 use Rattle.oc_server.proofs.Steps.{did_look}
 
 -- what is made of four parts is the same where each of them is
@@ -23,6 +23,6 @@ module _ {D L K : Type 0} (view : D → DiskView) (takes fails : K → List ℕ 
   looked_on takes_nothing old kept looks = record {
     deeds = [];
     did = did_look view takes fails faults story counts takes_nothing old (record old { kept = kept }) refl refl refl refl refl refl refl refl refl
-        (lawful_of old (record old { kept = kept }) looks.same (λ all. all) (λ all. all) (λ all. all)) looks;
+        (lawful_of old (record old { kept = kept }) (seat_of old.kept.node.control kept.node.control looks.same) (λ all. all) (λ all. all) (λ all. all)) looks;
     are = λ honest. refl;
   }

@@ -1,5 +1,5 @@
 -- Scenes after scenes.
-use Rattle.std.proofs.Common.{◌≡◌, ◌≤◌, ℕ, false, Option, List, [], ◌++◌, length, refl, sym, ap, subst, ◌∙◌, arith}
+use Rattle.std.proofs.Common.{◌≡◌, ◌≤◌, ℕ, false, true, Option, List, [], ◌++◌, length, refl, sym, ap, subst, ◌∙◌, arith}
 use Rattle.std.proofs.lemmas.List.{append-nil}
 use Rattle.oc_config.specs.Settings.{Settings, key_of}
 use Rattle.oc_link.specs.Told.{AddsAll}
@@ -11,29 +11,32 @@ use Rattle.oc_io.specs.Faults.{NoFall, Rose}
 use Rattle.oc_io.proofs.Counts.{Rose-after}
 use Rattle.oc_keep.specs.Files.{AllGoOn, Leaves, SameAsEither, Survives}
 use Rattle.oc_keep.specs.KeptView.{IsHonest, KeptView, disks_of, header_of, node_of}
-use Rattle.oc_keep.specs.Promises.{IsSameNode}
-use Rattle.oc_keep.specs.Trials.{after_inputs}
+use Rattle.oc_keep.specs.Promises.{IsSameSeat}
+use Rattle.oc_keep.proofs.Areas.{leaves_areas, survives_areas}
 use Rattle.oc_keep.proofs.Runs.{all_go_on_then, one_rose_after}
 use Rattle.oc_keep.proofs.Stays.{all_honest}
-use Rattle.oc_model.specs.declared.input.Input.{Input}
+use Rattle.oc_base.proofs.Each.{all_append}
 use Rattle.oc_model.specs.Node.{Header, Node}
 use Rattle.oc_model.specs.Step.{step}
 use Rattle.oc_policy.specs.declared.deciding.TheConstants.{MAX_RULES}
-use Rattle.oc_deeds.specs.Deeds.{Deed, Running, Setting, after_all, calls_of, config_behind, inputs_of, line, lines}
+use Rattle.oc_deeds.specs.Deeds.{Deed, Running, Setting, after_all, calls_of, config_behind, line, lines}
+use Rattle.oc_deeds.specs.Changes.{Change, KeepsAreas, after_changes, changes_of}
+use Rattle.oc_deeds.specs.Records.{is_record}
+use Rattle.oc_deeds.proofs.ChangesOf.{keep_same}
 use Rattle.oc_server.specs.Looks.{Renews}
 use Rattle.oc_server.specs.Moments.{AtEachPrefix}
 use Rattle.oc_deeds.specs.Done.{AreDone}
-use Rattle.oc_server.specs.Scenes.{Breaks, BreaksAfter, Did, HasCause, IsServing, KeepsAll, LeavesAt, LeavesUnder, WritesAt, running, setting}
+use Rattle.oc_server.specs.Scenes.{Breaks, BreaksAfter, Did, HasCause, IsServing, KeepsAll, KeepsRecord, LeavesAt, LeavesUnder, WritesAt, running, setting}
 use Rattle.oc_deeds.specs.Lawful.{IsPlaced}
 use Rattle.oc_deeds.specs.Under.{Under, Idle, Taking, Noting, under_line}
 use Rattle.oc_deeds.specs.declared.ends.TurnEnd.{TurnEnd}
 use Rattle.oc_deeds.specs.declared.ends.TurnEnd.TheVariants as ends
 use Rattle.oc_deeds.specs.declared.log.Log.{Log}
 use Rattle.oc_server.specs.declared.server.Server.{Server}
-use Rattle.oc_deeds.proofs.Chains.{after_append, calls_append, config_append, counts_append, counts_listening, inputs_append, lines_append}
+use Rattle.oc_deeds.proofs.Chains.{after_append, calls_append, config_append, counts_append, counts_listening, changes_append, lines_append}
 use Rattle.oc_server.proofs.Chains.{nodes_behind}
-use Rattle.oc_server.proofs.Moments.{prefix_then}
-use Rattle.oc_server.proofs.Looking.{go_on_none, keeps_no_fall, keeps_then, looks_none, named}
+use Rattle.oc_server.proofs.Moments.{prefix_areas, prefix_then}
+use Rattle.oc_server.proofs.Looking.{go_on_none, keeps_no_fall, keeps_then, looks_none, seated}
 
 -- what a server is set to, by its parts
 abbrev setting_with : ℕ → Log → Setting
@@ -60,6 +63,7 @@ module _ {D L K : Type 0} (view : D → DiskView) (takes fails : K → List ℕ 
   did_none takes_nothing a is_open = record {
     is_open = is_open;
     same = record { me = refl; header = refl };
+    recorded = λ is. record { each = tt; areas = refl };
     config = refl;
     set = λ set. set;
     log = refl;
@@ -76,7 +80,7 @@ module _ {D L K : Type 0} (view : D → DiskView) (takes fails : K → List ℕ 
   -- Deeds after deeds
 
   -- which node it is, and what it writes
-  pub setting_stays : (a b : Server D L K) → IsSameNode a.kept.node.control b.kept.node.control → b.log ≡ a.log → setting b ≡ setting a
+  pub setting_stays : (a b : Server D L K) → IsSameSeat a.kept.node.control b.kept.node.control → b.log ≡ a.log → setting b ≡ setting a
   setting_stays a b same log =
       ap (λ (me : ℕ). setting_with me b.log) same.me ∙ ap (λ (x : Log). setting_with a.kept.node.control.me x) log
 
@@ -87,18 +91,29 @@ module _ {D L K : Type 0} (view : D → DiskView) (takes fails : K → List ℕ 
       subst (λ (t : List ℕ). takes a t c) (sym (lines_append s ds es))
       (takes_then a b c (lines s ds) (lines s es) first (subst (λ (x : Setting). takes b (lines x es) c) same second))
 
+  -- what is kept for a record by deeds after deeds
+  record_then : (ds es : List Deed) (a b c : Server D L K) → IsSameSeat a.kept.node.control b.kept.node.control → b.log ≡ a.log → KeepsRecord ds a b → (is_record b.log ≡ true → KeepsRecord es b c) → is_record a.log ≡ true → KeepsRecord (ds ++ es) a c
+  record_then ds es a b c same log first second is =
+      let more : KeepsRecord es b c = second (ap is_record log ∙ is) in
+      let n = a.kept.node.control in
+      record {
+        each = all_append (KeepsAreas n) ds es first.each (keep_same n b.kept.node.control (sym (ap (λ (h : Header). h.nodes) same.header)) (sym first.areas) es more.each);
+        areas = more.areas ∙ first.areas;
+      }
+
   pub did_then : (takes_then : (a b c : K) (x y : List ℕ) → takes a x b → takes b y c → takes a (x ++ y) c) (ds es : List Deed) (a b c : Server D L K)
       → Did view takes faults story counts ds a b → Did view takes faults story counts es b c → Did view takes faults story counts (ds ++ es) a c
   did_then takes_then ds es a b c first second = record {
     is_open = second.is_open;
     same = record { me = second.same.me ∙ first.same.me; header = second.same.header ∙ first.same.header };
+    recorded = λ is. record_then ds es a b c first.same first.log (first.recorded is) second.recorded is;
     config = second.config ∙ ap (config_behind es) first.config ∙ sym (config_append ds es a.config);
     set = λ set. second.set (first.set set);
     log = second.log ∙ first.log;
     goes_on = all_go_on_then view (disks_of a.kept) (disks_of b.kept) (disks_of c.kept) first.goes_on second.goes_on;
     no_fall = omega (arith, first.no_fall, second.no_fall);
     counted = counts_append ds es (counts a.link) (counts b.link) (counts c.link) first.counted second.counted;
-    keeps = subst (λ (is : List Input). KeepsAll view is a.kept c.kept) (sym (inputs_append ds es)) (keeps_then view (inputs_of ds) (inputs_of es) a.kept b.kept c.kept first.keeps second.keeps);
+    keeps = subst (λ (cs : List Change). KeepsAll view cs a.kept c.kept) (sym (changes_append ds es)) (keeps_then view (changes_of ds) (changes_of es) a.kept b.kept c.kept first.keeps second.keeps);
     lawful = λ lawful. second.lawful (first.lawful lawful);
     text = text_then takes_then (setting a) (setting b) ds es a.sink b.sink c.sink (setting_stays a b first.same first.log) first.text second.text;
     done = λ honest. done_then (setting a) ds es (running a) (running b) (running c) (story a.link) (story b.link) (story c.link) (first.done honest)
@@ -110,15 +125,15 @@ module _ {D L K : Type 0} (view : D → DiskView) (takes fails : K → List ℕ 
         (ap (λ (r : Running). r.node) (first.done honest).after ∙ nodes_behind ds (running a))
         (subst (λ (s : Setting). AtEachPrefix view (header_of a.kept.node.control) a.kept.node.control.me takes (line s) es (node_of b.kept) (disks_of b.kept) b.sink (disks_of c.kept) c.sink)
         (setting_stays a b first.same first.log)
-        (named (λ h me. AtEachPrefix view h me takes (line (setting b)) es (node_of b.kept) (disks_of b.kept) b.sink (disks_of c.kept) c.sink) a.kept b.kept first.same
+        (seated (λ h me. AtEachPrefix view h me takes (line (setting b)) es (node_of b.kept) (disks_of b.kept) b.sink (disks_of c.kept) c.sink)
+        (λ areas h me. prefix_areas view areas h me takes (line (setting b)) es (node_of b.kept) (disks_of b.kept) (disks_of c.kept) b.sink c.sink) a.kept b.kept first.same
         (second.moments (all_honest view (disks_of a.kept) (disks_of b.kept) first.goes_on honest)))));
   }
 
   -- The facts between any two calls hold after deeds
   pub still_serving : (ds : List Deed) (a b : Server D L K) → Did view takes faults story counts ds a b → IsServing a → IsServing b
   still_serving ds a b did serving =
-      let set = did.set (record { placed = serving.placed; rules = serving.rules }) in
-      record { is_open = did.is_open; placed = set.placed; rules = set.rules; lawful = did.lawful serving.lawful }
+      record { is_open = did.is_open; set = did.set serving.set; lawful = did.lawful serving.lawful }
 
   -- the disks that kept the disk model keep it
   pub still_honest : (ds : List Deed) (a b : Server D L K) → Did view takes faults story counts ds a b → IsHonest view a.kept → IsHonest view b.kept
@@ -126,15 +141,15 @@ module _ {D L K : Type 0} (view : D → DiskView) (takes fails : K → List ℕ 
 
   -- the generation of the files does not fall
   pub did_no_fall : (ds : List Deed) (a b : Server D L K) → Did view takes faults story counts ds a b → IsHonest view a.kept → NoFall a.kept.store.generation b.kept.store.generation
-  did_no_fall ds a b did honest = keeps_no_fall view (inputs_of ds) a.kept b.kept did.keeps honest
+  did_no_fall ds a b did honest = keeps_no_fall view (changes_of ds) a.kept b.kept did.keeps honest
 
   -- files that were renewed stay renewed
   pub still_renewed : (ds es : List Deed) (a b c : Server D L K) → Did view takes faults story counts ds a b → Did view takes faults story counts es b c
       → Renews view a.kept b.kept → Renews view a.kept c.kept
   still_renewed ds es a b c did more renews honest ripe = omega (arith, renews honest ripe, did_no_fall es b c more (still_honest ds a b did honest))
 
-  -- the node after deeds is the fold of their inputs
-  pub did_node : (ds : List Deed) (a b : Server D L K) → Did view takes faults story counts ds a b → IsHonest view a.kept → node_of b.kept ≡ after_inputs (node_of a.kept) (inputs_of ds)
+  -- the node after deeds is the fold of their changes
+  pub did_node : (ds : List Deed) (a b : Server D L K) → Did view takes faults story counts ds a b → IsHonest view a.kept → node_of b.kept ≡ after_changes (node_of a.kept) (changes_of ds)
   did_node ds a b did honest = ap (λ (r : Running). r.node) (did.done honest).after ∙ nodes_behind ds (running a)
 
   -- Breaks after deeds
@@ -156,24 +171,24 @@ module _ {D L K : Type 0} (view : D → DiskView) (takes fails : K → List ℕ 
 
   -- The files and outputs at a break after deeds
 
-  under_of : (a b c : KeptView D) (under : Under) (n m : Node) → IsSameNode a.node.control b.node.control → m ≡ n → LeavesUnder view b c m under → LeavesUnder view a c n under
+  under_of : (a b c : KeptView D) (under : Under) (n m : Node) → IsSameSeat a.node.control b.node.control → m ≡ n → LeavesUnder view b c m under → LeavesUnder view a c n under
   under_of a b c (Taking i) n m same is leaves =
       subst (λ (x : Node). Leaves view (header_of a.node.control) a.node.control.me (disks_of c) (SameAsEither x (step x i).node)) is
-      (named (λ h me. Leaves view h me (disks_of c) (SameAsEither m (step m i).node)) a b same leaves)
+      (seated (λ h me. Leaves view h me (disks_of c) (SameAsEither m (step m i).node)) (λ areas h me. leaves_areas view areas h me (disks_of c) m (step m i).node) a b same leaves)
   under_of a b c under n m same is leaves =
       subst (λ (x : Node). Survives view (header_of a.node.control) a.node.control.me (disks_of c) x) is
-      (named (λ h me. Survives view h me (disks_of c) m) a b same leaves)
+      (seated (λ h me. Survives view h me (disks_of c) m) (λ areas h me. survives_areas view areas h me (disks_of c) m) a b same leaves)
 
-  leaves_of : (a b c : KeptView D) (end : TurnEnd) (under : Under) (n m : Node) → IsSameNode a.node.control b.node.control → m ≡ n → LeavesAt view b c end m under → LeavesAt view a c end n under
+  leaves_of : (a b c : KeptView D) (end : TurnEnd) (under : Under) (n m : Node) → IsSameSeat a.node.control b.node.control → m ≡ n → LeavesAt view b c end m under → LeavesAt view a c end n under
   leaves_of a b c ends.Disk under n m same is leaves = under_of a b c under n m same is leaves
   leaves_of a b c ends.Sink under n m same is leaves = under_of a b c under n m same is leaves
   leaves_of a b c end under n m same is leaves = under_of a b c Idle n m same is leaves
 
-  -- every crash leaves the fold of the inputs that were taken, or with the one under way
+  -- every crash leaves the fold of the changes so far, or with the input under way
   pub broken_leaves : (ds : List Deed) (under : Under) (end : TurnEnd) (a c : Server D L K) → BreaksAfter view takes fails faults story counts end ds under a c
-      → IsHonest view a.kept → LeavesAt view a.kept c.kept end (after_inputs (node_of a.kept) (inputs_of ds)) under
+      → IsHonest view a.kept → LeavesAt view a.kept c.kept end (after_changes (node_of a.kept) (changes_of ds)) under
   broken_leaves ds under end a c (b, did, breaks) honest =
-      leaves_of a.kept b.kept c.kept end under (after_inputs (node_of a.kept) (inputs_of ds)) (node_of b.kept) did.same (did_node ds a b did honest) (breaks.leaves (still_honest ds a b did honest))
+      leaves_of a.kept b.kept c.kept end under (after_changes (node_of a.kept) (changes_of ds)) (node_of b.kept) did.same (did_node ds a b did honest) (breaks.leaves (still_honest ds a b did honest))
 
   write_then : (takes_then : (a b c : K) (x y : List ℕ) → takes a x b → takes b y c → takes a (x ++ y) c) (takes_fails : (a b c : K) (x y : List ℕ) → takes a x b → fails b y c → fails a (x ++ y) c)
       → (a b c : K) (end : TurnEnd) (x line : List ℕ) → takes a x b → WritesAt takes fails b c end [] line → WritesAt takes fails a c end x line

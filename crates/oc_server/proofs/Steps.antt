@@ -1,5 +1,5 @@
 -- Deeds, one at a time.
-use Rattle.std.proofs.Common.{◌≡◌, ◌≤◌, length, ℕ, Bool, false, Option, None, Some, List, [], ◌∷◌, ◌++◌, refl, sym, ap, subst, ◌∙◌, arith}
+use Rattle.std.proofs.Common.{◌≡◌, ◌≤◌, length, ℕ, Bool, false, true, Option, None, Some, List, [], ◌∷◌, ◌++◌, refl, sym, ap, subst, ◌∙◌, arith}
 use Rattle.std.proofs.lemmas.List.{append-nil}
 use Rattle.std.specs.List.{AllByRecursion}
 use Rattle.oc_link.specs.Counts.{CountsFailure}
@@ -12,13 +12,17 @@ use Rattle.oc_link.proofs.Stories.{adds-then}
 use Rattle.oc_io.specs.DiskView.{DiskView}
 use Rattle.oc_io.specs.Faults.{NoFall}
 use Rattle.oc_keep.specs.Files.{AllGoOn, Survives}
-use Rattle.oc_keep.specs.KeptView.{IsHonest, KeptView, NodeSurvives, disks_of, header_of, node_of}
+use Rattle.oc_keep.specs.KeptView.{IsHonest, KeptView, NodeSurvives, disks_of, going_by, header_of, node_of}
 use Rattle.oc_model.specs.declared.input.Input.{Input}
 use Rattle.oc_model.specs.declared.message.Message.{Message}
-use Rattle.oc_model.specs.Node.{Node}
+use Rattle.oc_model.specs.Node.{Header, Node}
 use Rattle.std.specs.Prelude.{unwrap_or}
 use Rattle.oc_config.specs.Settings.{Settings}
-use Rattle.oc_deeds.specs.Deeds.{Deed, Rereads, Running, after, calls, finish, deed_input, line, reread_line, reread_of, with_input}
+use Rattle.oc_deeds.specs.Deeds.{Deed, Rereads, Running, after, calls, finish, deed_input, line, reread_line, reread_of}
+use Rattle.oc_deeds.specs.Areas.{areas_among}
+use Rattle.oc_deeds.specs.Changes.{Change, with_change}
+use Rattle.oc_deeds.specs.Records.{is_record}
+use Rattle.oc_deeds.proofs.ChangesOf.{change_none, keeps_areas}
 use Rattle.oc_server.specs.Looks.{LooksOnly, LookStops}
 use Rattle.oc_server.specs.Moments.{TakesOne}
 use Rattle.oc_server.specs.Noting.{LineStops, NoteBreaks}
@@ -36,7 +40,7 @@ use Rattle.oc_routes.specs.declared.about.About.{About}
 use Rattle.oc_server.specs.declared.server.Server.{Server}
 use Rattle.oc_deeds.specs.declared.work.Transfer.{Transfer}
 use Rattle.oc_deeds.specs.declared.work.Work.{Work}
-use Rattle.oc_server.proofs.Lawful.{lawful_of, set_of}
+use Rattle.oc_server.proofs.Lawful.{lawful_of, seat_of, set_of}
 use Rattle.oc_server.proofs.Looking.{go_on_none, looks_none, memory_looks}
 use Rattle.oc_server.proofs.Moments.{prefix_none, prefix_one}
 use Rattle.oc_server.proofs.Scenes.{done_none}
@@ -52,14 +56,15 @@ module _ {D L K : Type 0} (view : D → DiskView) (takes fails : K → List ℕ 
       → Did view takes faults story counts (d ∷ []) old new
   did_step d old new none unread config log text few counted looks lawful is made = record {
     is_open = looks.is_open;
-    same = looks.same;
+    same = seat_of old.kept.node.control new.kept.node.control looks.same;
+    recorded = λ is. record { each = (keeps_areas old.kept.node.control d unread, tt); areas = ap (λ (h : Header). h.areas) looks.same.header };
     config = config ∙ ap (λ (o : Option Settings). unwrap_or o old.config) (sym unread);
-    set = set_of old new looks.same config;
+    set = set_of old new looks.same config log;
     log = log;
     goes_on = looks.goes_on;
     no_fall = few;
     counted = counted;
-    keeps = subst (λ (o : Option Input). KeepsAll view (with_input o []) old.kept new.kept) (sym none) looks;
+    keeps = subst (λ (o : Option Change). KeepsAll view (with_change o []) old.kept new.kept) (sym (change_none d none unread)) looks;
     lawful = lawful;
     text = subst (λ (t : List ℕ). takes old.sink t new.sink) (sym (append-nil (line (setting old) d))) text;
     done = λ honest. record {
@@ -102,7 +107,7 @@ module _ {D L K : Type 0} (view : D → DiskView) (takes fails : K → List ℕ 
       → Did view takes faults story counts (d ∷ []) old (record old { kept = kept; works = ws; link = link; tally = tally })
   did_given takes_nothing d old kept ws left link tally counts_to none unread silent looks counted lawful behind is tallied made =
       did_step d old (record old { kept = kept; works = ws; link = link; tally = tally }) none unread refl refl (subst (λ (t : List ℕ). takes old.sink t old.sink) (sym silent) (takes_nothing old.sink)) (omega arith)
-      counted looks (lawful_of old (record old { kept = kept; works = ws; link = link; tally = tally }) looks.same (λ all. all) lawful (λ all. all))
+      counted looks (lawful_of old (record old { kept = kept; works = ws; link = link; tally = tally }) (seat_of old.kept.node.control kept.node.control looks.same) (λ all. all) lawful (λ all. all))
       (λ honest.
       ap (λ (n : Node). record { node = n; outbox = old.outbox; works = ws; dials = old.dials; config = old.config; tally = tally; about = about_of old.about }) (looks.node honest)
       ∙ ap (λ (x : List Work). record { node = node_of old.kept; outbox = old.outbox; works = x; dials = old.dials; config = old.config; tally = tally; about = about_of old.about }) (is honest)
@@ -118,22 +123,26 @@ module _ {D L K : Type 0} (view : D → DiskView) (takes fails : K → List ℕ 
       did_step d old (record old { about = about; link = link }) none unread refl refl (subst (λ (t : List ℕ). takes old.sink t old.sink) (sym silent) (takes_nothing old.sink)) (omega arith)
       counted (looks_none view old.kept is_open) (lawful_of old (record old { about = about; link = link }) (record { me = refl; header = refl }) (λ all. all) (λ all. all) (λ all. all)) (λ honest. is) (λ honest. made)
 
-  -- one that goes by another configuration
+  -- one that goes by another configuration, and by its areas
   pub did_reread : (takes_nothing : (k : K) → takes k [] k) (old : Server D L K) (config : Settings) (link : L) → old.kept.closed ≡ false
       → IsPlaced old.kept.node.control.nodes config.addresses → length config.rules ≤ MAX_RULES
+      → (is_record old.log ≡ true → areas_among old.kept.node.control.nodes config.areas ≡ old.kept.node.control.areas)
       → AddsAll (acts.Report reread_line ∷ []) (story old.link) (story link) → counts link ≡ counts old.link
-      → Did view takes faults story counts (Rereads config ∷ []) old (record old { config = config; about = record old.about { refused = false }; link = link })
-  did_reread takes_nothing old config link is_open placed rules made counted = record {
+      → Did view takes faults story counts (Rereads config ∷ []) old
+      (record old { kept = going_by (areas_among old.kept.node.control.nodes config.areas) old.kept; config = config; about = record old.about { refused = false }; link = link })
+  did_reread takes_nothing old config link is_open placed rules still made counted = record {
     is_open = is_open;
     same = record { me = refl; header = refl };
+    recorded = λ is. record { each = (still is, tt); areas = still is };
     config = refl;
-    set = λ set. record { placed = placed; rules = rules };
+    set = λ set. record { placed = placed; rules = rules; areas = refl; roomy = set.roomy };
     log = refl;
     goes_on = go_on_none view (disks_of old.kept);
     no_fall = omega arith;
     counted = counted;
-    keeps = looks_none view old.kept is_open;
-    lawful = lawful_of old (record old { config = config; about = record old.about { refused = false }; link = link }) (record { me = refl; header = refl }) (λ all. all) (λ all. all) (λ all. all);
+    keeps = (old.kept, looks_none view old.kept is_open, looks_none view (going_by (areas_among old.kept.node.control.nodes config.areas) old.kept) is_open);
+    lawful = lawful_of old (record old { kept = going_by (areas_among old.kept.node.control.nodes config.areas) old.kept; config = config; about = record old.about { refused = false }; link = link })
+        (record { me = refl; header = refl }) (λ all. all) (λ all. all) (λ all. all);
     text = takes_nothing old.sink;
     done = λ honest. record { after = refl; calls = made };
     moments = λ honest.
@@ -147,9 +156,10 @@ module _ {D L K : Type 0} (view : D → DiskView) (takes fails : K → List ℕ 
       → LooksOnly view old.kept new.kept → Did view takes faults story counts [] old new
   did_look takes_nothing old new config log about sink link outbox works dials tally lawful looks = record {
     is_open = looks.is_open;
-    same = looks.same;
+    same = seat_of old.kept.node.control new.kept.node.control looks.same;
+    recorded = λ is. record { each = tt; areas = ap (λ (h : Header). h.areas) looks.same.header };
     config = config;
-    set = set_of old new looks.same config;
+    set = set_of old new looks.same config log;
     log = log;
     goes_on = looks.goes_on;
     no_fall = subst (λ (k : K). NoFall (faults old.sink) (faults k)) (sym sink) (omega arith);

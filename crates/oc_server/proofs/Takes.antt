@@ -19,7 +19,7 @@ use Rattle.oc_keep.specs.declared.errors.KeepError.TheVariants as keeps
 use Rattle.oc_keep.proofs.Stays.{Law, all_honest, leaves_now}
 use Rattle.oc_laws_step.specs.LawfulNode.{IsLawfulOutcome}
 use Rattle.oc_model.specs.Lawful.{IsInput, IsMessage}
-use Rattle.oc_model.specs.Node.{Control, Node}
+use Rattle.oc_model.specs.Node.{Control, Header, Node}
 use Rattle.oc_model.specs.Step.{plan, step}
 use Rattle.oc_model.specs.declared.input.Input.{Input}
 use Rattle.oc_model.specs.declared.input.Input.TheVariants as inputs
@@ -29,7 +29,9 @@ use Rattle.oc_routes.specs.Inputs.{HasLine}
 use Rattle.oc_wire.specs.Spelling.{HasSpelling}
 use Rattle.std.specs.Prelude.{unwrap_or}
 use Rattle.oc_config.specs.Settings.{Settings}
-use Rattle.oc_deeds.specs.Deeds.{Accepts, counted_input, Deed, Running, Takes, after, calls, for_outbox, deed_input, line, reread_of, sender_of, taken_line, with_input}
+use Rattle.oc_deeds.specs.Deeds.{Accepts, counted_input, Deed, Running, Takes, after, calls, for_outbox, deed_input, line, reread_of, sender_of, taken_line}
+use Rattle.oc_deeds.specs.Changes.{Change, with_change}
+use Rattle.oc_deeds.proofs.ChangesOf.{change_input, keeps_areas}
 use Rattle.oc_server.specs.Noting.{LineStops}
 use Rattle.oc_server.specs.Moments.{TakesOne}
 use Rattle.oc_deeds.specs.Outboxes.{with_messages}
@@ -50,7 +52,7 @@ use Rattle.oc_deeds.specs.declared.work.Work.{Work}
 use Rattle.oc_server.proofs.Looking.{go_on_none, keeps_one, named}
 use Rattle.oc_server.proofs.Moments.{prefix_one}
 use Rattle.oc_deeds.proofs.Messages.{lawful_are, kept_sendable, with_sendable}
-use Rattle.oc_server.proofs.Lawful.{lawful_of, set_of}
+use Rattle.oc_server.proofs.Lawful.{lawful_of, seat_of, set_of}
 
 -- the messages of the step of a lawful node can be sent
 pub step_sendable : (nodes : ℕ) (n : Node) (i : Input) → ((m : Message) → IsMessage nodes m → HasSpelling m.body) → IsLawfulOutcome nodes (step n i) → AreSendable nodes (step n i).sends
@@ -121,15 +123,16 @@ module _ {D L K : Type 0} (view : D → DiskView) (takes fails : K → List ℕ 
       → Did view takes faults story counts (d ∷ []) old new
   did_input d i outcome kept old new own unread lined behind silent counted can is_open keeps text few config log about link works dials outbox tally = record {
     is_open = keeps.is_open;
-    same = keeps.same;
+    same = seat_of old.kept.node.control new.kept.node.control keeps.same;
+    recorded = λ is. record { each = (keeps_areas old.kept.node.control d unread, tt); areas = ap (λ (h : Header). h.areas) keeps.same.header };
     config = config ∙ ap (λ (o : Option Settings). unwrap_or o old.config) (sym unread);
-    set = set_of old new keeps.same config;
+    set = set_of old new keeps.same config log;
     log = log;
     goes_on = keeps.goes_on;
     no_fall = few;
     counted = subst (λ (l : L). CountsAll (d ∷ []) (counts old.link) (counts l)) (sym link) counted;
-    keeps = subst (λ (o : Option Input). KeepsAll view (with_input o []) old.kept new.kept) (sym own) (keeps_one view i outcome old.kept new.kept is_open keeps);
-    lawful = lawful_of old new keeps.same
+    keeps = subst (λ (o : Option Change). KeepsAll view (with_change o []) old.kept new.kept) (sym (change_input d i own)) (keeps_one view i outcome old.kept new.kept is_open keeps);
+    lawful = lawful_of old new (seat_of old.kept.node.control new.kept.node.control keeps.same)
         (λ before. subst (λ (ms : List Message). AreSendable old.kept.node.control.nodes ms) (sym outbox) (with_sendable old.kept.node.control.nodes old.outbox (kept outcome.sends) before (can outcome.sends keeps.sendable)))
         (λ before. subst (λ (ws : List Work). AllByRecursion (IsLawfulWork old.kept.node.control.nodes old.kept.node.control.me) ws) (sym works) before)
         (λ before. subst (λ (ds : List Dialling). AllByRecursion (IsLawfulDial old.kept.node.control.nodes) ds) (sym dials) before);

@@ -102,8 +102,9 @@ module _ {D L K : Type 0} (view : D → DiskView) (takes fails : K → List ℕ 
   did_heads ds a b c same did = subst (λ (x : Server D L K). Did view takes faults story counts ds a x) (sym same) (record {
     is_open = did.is_open;
     same = did.same;
+    recorded = λ is. let kept = did.recorded is in record { each = kept.each; areas = kept.areas };
     config = did.config;
-    set = λ before. let set = did.set before in record { placed = set.placed; rules = set.rules };
+    set = λ before. let set = did.set before in record { placed = set.placed; rules = set.rules; areas = set.areas; roomy = set.roomy };
     log = did.log;
     goes_on = did.goes_on;
     no_fall = did.no_fall;
@@ -118,8 +119,7 @@ module _ {D L K : Type 0} (view : D → DiskView) (takes fails : K → List ℕ 
   pub serving_heads : (b c : Server D L K) → c ≡ record b { heads = c.heads } → IsServing b → IsServing c
   serving_heads b c same serving = subst (λ (x : Server D L K). IsServing x) (sym same) (record {
     is_open = serving.is_open;
-    placed = serving.placed;
-    rules = serving.rules;
+    set = record { placed = serving.set.placed; rules = serving.set.rules; areas = serving.set.areas; roomy = serving.set.roomy };
     lawful = record { sendable = serving.lawful.sendable; works = serving.lawful.works; dials = serving.lawful.dials };
   })
 
@@ -132,9 +132,8 @@ module _ {D L K : Type 0} (view : D → DiskView) (takes fails : K → List ℕ 
   -- the terms by which requests are read
   pub reads_same : (ds : List Deed) (a b : Server D L K) → Did view takes faults story counts ds a b → config_behind ds a.config ≡ a.config → reads_by b ≡ reads_by a
   reads_same ds a b did same =
-      ap (λ (me : ℕ). terms_of me b.kept.node.control.nodes b.config.rules b.config.keys) did.same.me
-      ∙ ap (λ (h : Header). terms_of a.kept.node.control.me h.nodes b.config.rules b.config.keys) did.same.header
-      ∙ ap (λ (c : Settings). terms_of a.kept.node.control.me a.kept.node.control.nodes c.rules c.keys) (did.config ∙ same)
+      ap (λ (me : ℕ). terms_of me (length b.config.addresses) b.config.rules b.config.keys) did.same.me
+      ∙ ap (λ (c : Settings). terms_of a.kept.node.control.me (length c.addresses) c.rules c.keys) (did.config ∙ same)
 
   -- Work that was due
 

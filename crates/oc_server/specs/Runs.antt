@@ -122,7 +122,7 @@ pub record LooksAgain {D L K : Type 0} (view : D → DiskView) (takes : K → Li
   pub means : MeansLook old.reading look reread
   pub reading : new.reading ≡ last_read look old.reading
   pub pace : new.pace ≡ old.pace
-  pub probing : IsHonest view old.server.kept → new.probing ≡ probing_by (setting old.server).me old.server.config reread old.probing
+  pub probing : IsHonest view old.server.kept → new.probing ≡ probing_by (setting old.server) old.server.config reread old.probing
 
 -- A front of that was done, and then it ended so. What the look gave was read, where anything was done by it.
 pub record LookAgainStops {D L K : Type 0} (view : D → DiskView) (takes fails : K → List ℕ → K → Type 0) (faults : K → ℕ) (story : L → Option (List Call)) (counts : L → LinkCounts) (end : TurnEnd) (old new : Turns D L K) : Type 0 where
@@ -147,7 +147,7 @@ pub record Turned {D L K : Type 0} (view : D → DiskView) (takes : K → List �
   pub serves : IsHonest view old.server.kept → served ≡ is_served (due_in old.server told.before) told.came
   pub pace : IsHonest view old.server.kept → new.pace ≡ pace_after (due_in old.server told.before) old.pace told (node_of old.server.kept)
   pub probing : IsHonest view old.server.kept
-      → new.probing ≡ probing_by (setting old.server).me (config_at_look old told) told.reread (probing_after (due_in old.server told.before) told old.server.dials old.probing)
+      → new.probing ≡ probing_by (setting old.server) (config_at_look old told) told.reread (probing_after (due_in old.server told.before) told old.server.dials old.probing)
   pub reading : new.reading ≡ last_read told.look old.reading
 
 -- A front of a turn was done, and then it ended so. What came was read, where more was done than to ask for it, and so was what the look gave, where

@@ -1,5 +1,5 @@
 -- A running node with its files, its output and its link, from one moment to a later one.
-use Rattle.std.specs.Prelude.{◌≡◌, ◌≤◌, ◌⊎◌, ℕ, false, Option, List, [], ◌∷◌, ◌++◌, length}
+use Rattle.std.specs.Prelude.{◌≡◌, ◌≤◌, ◌⊎◌, ℕ, false, true, Option, List, [], ◌∷◌, ◌++◌, length}
 use Rattle.std.specs.List.{AllByRecursion}
 use Rattle.oc_link.specs.Calls.{IsFront}
 use Rattle.oc_link.specs.Counts.{CountsFailure}
@@ -10,8 +10,8 @@ use Rattle.oc_io.specs.Faults.{NoFall, Rose}
 use Rattle.oc_keep.specs.Calls.{DoesNothing}
 use Rattle.oc_keep.specs.ControlStep.{control_step}
 use Rattle.oc_keep.specs.Files.{Disks, AllGoOn, Leaves, OneRose, SameAsEither, Survives}
-use Rattle.oc_keep.specs.KeptView.{AtAnyMoment, IsFullAt, IsHonest, KeptView, NodeSurvives, disks_of, header_of, node_of}
-use Rattle.oc_keep.specs.Promises.{IsSameNode}
+use Rattle.oc_keep.specs.KeptView.{AtAnyMoment, IsFullAt, IsHonest, KeptView, NodeSurvives, disks_of, going_by, header_of, node_of}
+use Rattle.oc_keep.specs.Promises.{IsSameNode, IsSameSeat}
 use Rattle.oc_keep.specs.ReadyView.{told_of}
 use Rattle.oc_keep.specs.declared.errors.KeepError.{KeepError}
 use Rattle.oc_keep.specs.declared.errors.KeepError.TheVariants as keeps
@@ -19,12 +19,16 @@ use Rattle.oc_model.specs.declared.input.Input.{Input}
 use Rattle.oc_model.specs.Node.{Header, Node}
 use Rattle.oc_model.specs.Step.{step}
 use Rattle.oc_node.specs.OutcomeView.{OutcomeView}
+use Rattle.oc_base.specs.declared.limits.TheConstants.{MAX_NODES}
 use Rattle.oc_policy.specs.declared.deciding.TheConstants.{MAX_RULES}
 use Rattle.oc_routes.specs.Sights.{about_of}
 use Rattle.oc_deeds.specs.Done.{AreDone, CountsAll}
 use Rattle.oc_deeds.specs.Lawful.{IsLawfulDial, IsLawfulWork, IsPlaced}
 use Rattle.oc_deeds.specs.Under.{Idle, Taking, Under, under_line}
-use Rattle.oc_deeds.specs.Deeds.{Deed, Running, Setting, config_behind, inputs_of, line, lines}
+use Rattle.oc_deeds.specs.Areas.{areas_among}
+use Rattle.oc_deeds.specs.Changes.{Change, ByInput, ByAreas, KeepAreas, changes_of}
+use Rattle.oc_deeds.specs.Records.{is_record}
+use Rattle.oc_deeds.specs.Deeds.{Deed, Running, Setting, config_behind, line, lines}
 use Rattle.oc_server.specs.Looks.{LooksOn, LooksOnly, RunsSafely}
 use Rattle.oc_server.specs.Moments.{AtEachPrefix}
 use Rattle.oc_deeds.specs.Sending.{AreSendable}
@@ -52,16 +56,18 @@ pub record IsLawful {D L K : Type 0} (s : Server D L K) : Type 0 where
   pub works : AllByRecursion (IsLawfulWork s.kept.node.control.nodes s.kept.node.control.me) s.works
   pub dials : AllByRecursion (IsLawfulDial s.kept.node.control.nodes) s.dials
 
--- each node has a place in the configuration, and there are not too many rules
+-- each place of the configuration is that of a node, which goes by its areas, and there are not too many rules; a node that writes no record
+-- has room for all ids that there can be
 pub record IsSet {D L K : Type 0} (s : Server D L K) : Type 0 where
   pub placed : IsPlaced s.kept.node.control.nodes s.config.addresses
   pub rules : length s.config.rules ≤ MAX_RULES
+  pub areas : s.kept.node.control.areas ≡ areas_among s.kept.node.control.nodes s.config.areas
+  pub roomy : is_record s.log ≡ false → s.kept.node.control.nodes ≡ MAX_NODES
 
--- no disk failed, each node has a place, there are not too many rules, and all is lawful
+-- no disk failed, the node is set so, and all is lawful
 pub record IsServing {D L K : Type 0} (s : Server D L K) : Type 0 where
   pub is_open : s.kept.closed ≡ false
-  pub placed : IsPlaced s.kept.node.control.nodes s.config.addresses
-  pub rules : length s.config.rules ≤ MAX_RULES
+  pub set : IsSet s
   pub lawful : IsLawful s
 
 -- Deeds that were done
@@ -82,22 +88,29 @@ pub record KeepsOne {D : Type 0} (view : D → DiskView) (i : Input) (outcome : 
   pub generation : IsHonest view old → new.store.generation ≡ old.store.generation
   pub any_moment : IsHonest view old → AtAnyMoment view old new (SameAsEither (node_of old) (step (node_of old) i).node)
 
--- inputs that were taken one after another, between which the files were only looked at or turned over
-abbrev pub KeepsAll : {D : Type 0} → (D → DiskView) → List Input → KeptView D → KeptView D → Type 0
+-- inputs that were taken one after another, and areas that were gone by, between which the files were only looked at or turned over
+abbrev pub KeepsAll : {D : Type 0} → (D → DiskView) → List Change → KeptView D → KeptView D → Type 0
 KeepsAll {D} view [] old new = LooksOnly view old new
-KeepsAll {D} view (i ∷ is) old new = (at next : KeptView D) × (outcome : OutcomeView) × LooksOnly view old at × KeepsOne view i outcome at next × KeepsAll view is next new
+KeepsAll {D} view (ByInput i ∷ cs) old new = (at next : KeptView D) × (outcome : OutcomeView) × LooksOnly view old at × KeepsOne view i outcome at next × KeepsAll view cs next new
+KeepsAll {D} view (ByAreas areas ∷ cs) old new = (at : KeptView D) × LooksOnly view old at × KeepsAll view cs (going_by (areas_among at.node.control.nodes areas) at) new
+
+-- where a record is written, the deeds leave the areas of the node as they are
+pub record KeepsRecord {D L K : Type 0} (deeds : List Deed) (old new : Server D L K) : Type 0 where
+  pub each : KeepAreas old.kept.node.control deeds
+  pub areas : new.kept.node.control.areas ≡ old.kept.node.control.areas
 
 -- The deeds were done: their lines were written, no disk and no output failed, and no file was full for an input.
 pub record Did {D L K : Type 0} (view : D → DiskView) (takes : K → List ℕ → K → Type 0) (faults : K → ℕ) (story : L → Option (List Call)) (counts : L → LinkCounts) (deeds : List Deed) (old new : Server D L K) : Type 0 where
   pub is_open : new.kept.closed ≡ false
-  pub same : IsSameNode old.kept.node.control new.kept.node.control
+  pub same : IsSameSeat old.kept.node.control new.kept.node.control
+  pub recorded : is_record old.log ≡ true → KeepsRecord deeds old new
   pub config : new.config ≡ config_behind deeds old.config
   pub set : IsSet old → IsSet new
   pub log : new.log ≡ old.log
   pub goes_on : AllGoOn view (disks_of old.kept) (disks_of new.kept)
   pub no_fall : NoFall (faults old.sink) (faults new.sink)
   pub counted : CountsAll deeds (counts old.link) (counts new.link)
-  pub keeps : KeepsAll view (inputs_of deeds) old.kept new.kept
+  pub keeps : KeepsAll view (changes_of deeds) old.kept new.kept
   pub lawful : IsLawful old → IsLawful new
   pub text : takes old.sink (lines (setting old) deeds) new.sink
   pub done : IsHonest view old.kept → AreDone (setting old) deeds (running old) (running new) (story old.link) (story new.link)

@@ -1,6 +1,6 @@
 //! The answers to requests, and the requests that wait.
 
-ghost use Rattle.std.specs.Prelude.{◌≡◌, false, map, option_map, string_bytes, IfErr, IfOk, IfSome, OnOk};
+ghost use Rattle.std.specs.Prelude.{◌≡◌, ◌≤◌, false, length, map, option_map, string_bytes, IfErr, IfOk, IfSome, OnOk};
 ghost use Rattle.oc_base.specs.Groups.{shelf};
 ghost use Rattle.oc_keep.specs.KeptView.{IsHonest, node_of};
 ghost use Rattle.oc_model.specs.Lawful.{IsInput};
@@ -9,13 +9,14 @@ ghost use Rattle.oc_routes.specs.Asks.{IsLawfulAsk};
 ghost use Rattle.oc_routes.specs.Reports.{report_of};
 ghost use Rattle.oc_routes.specs.Routes.{response_for};
 ghost use Rattle.oc_routes.specs.Sights.{sight_of};
-ghost use Rattle.oc_routes.specs.Lawful.{IsAsked};
+ghost use Rattle.oc_routes.specs.Lawful.{IsAsking};
 ghost use Rattle.oc_wire.specs.Spelling.{HasSpelling};
 ghost use Rattle.oc_deeds.specs.Asks.{answer_now, has_to_wait, holding_in, response_now};
 ghost use Rattle.oc_server.specs.Looks.{LooksOnly, LookStops, end_of_ready};
 ghost use Rattle.oc_config.specs.Settings.{key_of};
 ghost use Rattle.oc_server.specs.Scenes.{running, setting};
 
+use crate::hearing::ids_of;
 use crate::server::Server;
 use oc_base::Memory;
 use oc_config::Config;
@@ -38,8 +39,9 @@ impl<D: Disk, L: Link, K: Sink> Server<D, L, K> {
         pending: &Pending,
         accepted: &Accepted,
     ) -> Result<Response, Memory>
-        requires asks { IsAsked pending.now.asked.operation }
+        requires asks { IsAsking pending.now.asked }
         requires back { IfSome accepted.now.back (λ m. HasSpelling m.body) }
+        requires places { length self.now.config.addresses ≤ self.now.kept.node.control.nodes }
         ensures { IfOk result (λ response. IsHonest D.view self.now.kept
             → response ≡ response_now pending.now accepted.now.answer accepted.now.back (setting self.now) (running self.now)) }
     {
@@ -48,6 +50,7 @@ impl<D: Disk, L: Link, K: Sink> Server<D, L, K> {
             shelf: self.kept.shelf(),
             messages: self.outbox.len(),
             directory: directory_of(&self.config),
+            ids: ids_of(self.kept.node(), &self.config),
             tally: &self.tally,
             about: self.about,
         };
@@ -62,7 +65,7 @@ fn response_to(
     pending: &Pending,
     accepted: &Accepted,
 ) -> Result<Response, Memory>
-    requires asks { IsAsked pending.now.asked.operation }
+    requires asks { IsAsking pending.now.asked }
     requires back { IfSome accepted.now.back (λ m. HasSpelling m.body) }
     ensures { IfOk result (λ response. response ≡ response_for pending.now.asked pending.now.last accepted.now.answer accepted.now.back
         (holding_in pending.now.asked.operation seen.now.shelf.now) (sight_of seen.now).addresses (option_map (λ k. k.now) seen.now.directory.key)
@@ -115,10 +118,7 @@ pub(crate) fn has_to_wait<D: Disk>(kept: &mut Kept<D>, request: &Request) -> Res
     else {
         return Ok(false);
     };
-    let answer = answer_now(
-        kept,
-        client_input(&request.asked.operation, request.asked.hint),
-    )?;
+    let answer = answer_now(kept, client_input(&request.asked))?;
     let holding = Holding::in_shelf(kept.shelf(), group);
     Ok(is_to_wait(
         &request.asked.operation,

@@ -172,7 +172,7 @@ impl<D: Disk, L: Link, K: Sink> Doer for Server<D, L, K> {
         // The line comes first, so that no client is refused without a line.
         write_line(&mut self.sink, &line)?;
         count_refusal(&mut self.tally, refusal, &reply);
-        refuse(&mut self.link, connection, count, reply);
+        refuse(&mut self.link, connection, count, refusal.kept, reply);
         Ok(())
     }
 
@@ -250,7 +250,8 @@ impl<D: Disk, L: Link, K: Sink> Doer for Server<D, L, K> {
         look
     }
 
-    fn rereads(&mut self, config: Config) {
+    fn rereads(&mut self, config: Config, areas: Vec<u8>) {
+        self.kept.set_areas(areas);
         self.config = config;
         self.about.refused = false;
         self.link.report(REREAD_LINE);

@@ -6,7 +6,7 @@ ghost use Rattle.oc_policy.specs.declared.deciding.TheConstants.{MAX_RULES};
 ghost use Rattle.oc_routes.specs.Verdicts.{terms_of};
 ghost use Rattle.oc_deeds.specs.Lawful.{IsLawfulCame};
 ghost use Rattle.oc_server.specs.Runs.{reads_by};
-ghost use Rattle.oc_server.specs.Scenes.{Breaks, IsServing};
+ghost use Rattle.oc_server.specs.Scenes.{Breaks, IsServing, IsSet};
 ghost use Rattle.oc_deeds.specs.Under.{Idle};
 ghost use Rattle.oc_deeds.specs.Lawful.{IsLawfulErrand};
 ghost use Rattle.oc_deeds.specs.Rereading.{IsLawfulReread, MeansLook};
@@ -21,7 +21,7 @@ use oc_deeds::rereading::reread;
 use oc_deeds::{Came, Errand, Reread, TurnEnd};
 use oc_http::HeadReader;
 use oc_io::{Disk, Sink};
-use oc_keep::Kept;
+use oc_keep::{Kept, Node};
 use oc_link::{Arrival, Coming, Link, LinkEvent, Look};
 use oc_routes::{Terms, judge};
 use std::alloc::Global;
@@ -53,7 +53,7 @@ impl<D: Disk, L: Link, K: Sink> Server<D, L, K> {
 
     /// What an event is, by what the link lends.
     fn meaning_of(&mut self, happened: Heard) -> Result<Came, Memory>
-        requires rules { length self.old.config.rules ≤ MAX_RULES }
+        requires set { IsSet self.old }
         requires errand { IfSome happened.errand (IsLawfulErrand self.old.kept.node.control.nodes) }
         ensures means { IfOk result (Means (reads_by self.old) (L.lends self.old.link) happened.errand happened.event) }
         ensures lawful { IfOk result (IsLawfulCame self.old.kept.node.control.nodes self.old.kept.node.control.me) }
@@ -70,7 +70,7 @@ impl<D: Disk, L: Link, K: Sink> Server<D, L, K> {
 
     /// The verdict on the bytes of a request that came so far.
     fn hears(&mut self, arrival: Arrival) -> Result<Came, Memory>
-        requires { length self.old.config.rules ≤ MAX_RULES }
+        requires { IsSet self.old }
         ensures means { IfOk result (Means (reads_by self.old) (L.lends self.old.link) None (events.Request arrival)) }
         ensures lawful { IfOk result (IsLawfulCame self.old.kept.node.control.nodes self.old.kept.node.control.me) }
         ensures same { self.new ≡ record self.old { heads = self.new.heads } }
@@ -87,7 +87,8 @@ impl<D: Disk, L: Link, K: Sink> Server<D, L, K> {
 
     /// The news of a dial with this errand; `Nothing` where there was no errand.
     fn hears_back(&mut self, errand: Option<Errand>, coming: Coming) -> Result<Came, Memory>
-        requires { IfSome errand (IsLawfulErrand self.old.kept.node.control.nodes) }
+        requires set { IsSet self.old }
+        requires errand { IfSome errand (IsLawfulErrand self.old.kept.node.control.nodes) }
         ensures means { IfOk result (MeansBack (reads_by self.old) (L.lends self.old.link) errand coming) }
         ensures lawful { IfOk result (IsLawfulCame self.old.kept.node.control.nodes self.old.kept.node.control.me) }
         ensures same { self.new ≡ record self.old { heads = self.new.heads } }
@@ -116,14 +117,15 @@ fn judged<D: Disk>(
     arrival: Arrival,
     bytes: &[u8],
 ) -> Result<Came, Memory>
-    requires { length config.now.rules ≤ MAX_RULES }
-    ensures means { IfOk result (Means (terms_of kept.now.node.control.me kept.now.node.control.nodes config.now.rules config.now.keys) bytes.now None (events.Request arrival)) }
+    requires rules { length config.now.rules ≤ MAX_RULES }
+    requires places { length config.now.addresses ≤ kept.now.node.control.nodes }
+    ensures means { IfOk result (Means (terms_of kept.now.node.control.me (length config.now.addresses) config.now.rules config.now.keys) bytes.now None (events.Request arrival)) }
     ensures lawful { IfOk result (IsLawfulCame kept.now.node.control.nodes kept.now.node.control.me) }
 {
     let connection = arrival.connection;
     let terms = Terms {
         me: kept.node().id(),
-        nodes: kept.node().nodes(),
+        nodes: ids_of(kept.node(), config),
         rules: &config.rules,
         keys: config.keys.as_ref(),
     };
@@ -137,13 +139,26 @@ fn judged<D: Disk>(
 
 /// A node with this configuration, as one that hears back.
 fn hearer_of<'a, D: Disk>(kept: &Kept<D>, config: &'a Config) -> Hearer<'a>
+    requires { length config.now.addresses ≤ kept.now.node.control.nodes }
     ensures me { result.me ≡ kept.now.node.control.me }
     ensures nodes { result.nodes ≡ kept.now.node.control.nodes }
+    ensures ids { result.ids ≡ length config.now.addresses }
     ensures keys { option_map (λ k. k.now) result.keys ≡ config.now.keys }
 {
     Hearer {
         me: kept.node().id(),
         nodes: kept.node().nodes(),
+        ids: ids_of(kept.node(), config),
         keys: config.keys.as_ref(),
     }
+}
+
+/// The greatest id that a node of this configuration can have.
+pub(crate) fn ids_of(node: &Node, config: &Config) -> u32
+    requires { length config.now.addresses ≤ node.now.control.nodes }
+    ensures { result ≡ length config.now.addresses }
+{
+    // The contract of this call says that the number of nodes has 32 bits.
+    let _nodes = node.nodes();
+    config.addresses.len() as u32
 }

@@ -26,6 +26,7 @@ mod giving;
 mod hearing;
 mod noting;
 mod order_law;
+mod record_law;
 mod sendable;
 mod server;
 mod taking;
@@ -35,5 +36,6 @@ mod turns;
 
 pub use asking::Heard;
 pub use order_law::turns_are_in_order;
+pub use record_law::records_tell_all_changes;
 pub use server::Server;
 pub use turns::Turns;

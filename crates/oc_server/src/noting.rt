@@ -1,6 +1,6 @@
 //! Lines that begin with `!`, and requests that are refused.
 
-ghost use Rattle.std.specs.Prelude.{◌≡◌, OnOk, IfErr, Some, codes, option_map, true};
+ghost use Rattle.std.specs.Prelude.{◌≡◌, OnOk, IfErr, Some, codes, is_some, option_map, true, unwrap_or};
 ghost use Rattle.oc_link.specs.Told.{AddsAll};
 ghost use Rattle.oc_io.specs.Faults.{NoFall};
 ghost use Rattle.oc_deeds.specs.Deeds.{drop_line, note_line, refuses};
@@ -13,25 +13,33 @@ use oc_link::{ConnectionId, Ending, Link};
 /// The line of a reply that could not be sent.
 const WRITE_LINE: &[u8] = b"! write\n";
 
-/// Gives a refusal, which ends its connection; where it has no text the connection is broken off.
+/// Gives a refusal. A connection that is kept has this many bytes of the request taken, and its next request is awaited; any
+/// other has all taken that came on it, and ends. Where the refusal has no text the connection is broken off.
 pub(crate) fn refuse<L: Link>(
     link: &mut L,
     connection: ConnectionId,
-    count: u64,
+    came: u64,
+    kept: Option<u64>,
     reply: Option<Vec<u8>>,
 )
-    ensures calls { AddsAll (refuses connection count (option_map (λ text. text.items) reply)) (L.story link.old) (L.story link.new) }
+    ensures calls { AddsAll (refuses connection (unwrap_or kept came) (is_some kept) (option_map (λ text. text.items) reply)) (L.story link.old) (L.story link.new) }
     ensures counts { L.counts link.new ≡ L.counts link.old }
 {
     match reply {
-        Some(text) => refuse_by(link, connection, count, &text),
+        Some(text) => refuse_by(
+            link,
+            connection,
+            kept.unwrap_or(came),
+            kept.is_some(),
+            &text,
+        ),
         None => link.break_off(connection),
     }
 }
 
-/// Takes a request of this many bytes, and gives its refusal, which ends the connection.
-fn refuse_by<L: Link>(link: &mut L, connection: ConnectionId, count: u64, text: &[u8])
-    ensures calls { AddsAll (refuses connection count (Some text.now)) (L.story link.old) (L.story link.new) }
+/// Takes this many bytes, and gives a refusal; then the next request is awaited where `keeps`, and else the connection ends.
+fn refuse_by<L: Link>(link: &mut L, connection: ConnectionId, count: u64, keeps: bool, text: &[u8])
+    ensures calls { AddsAll (refuses connection count keeps (Some text.now)) (L.story link.old) (L.story link.new) }
     ensures counts { L.counts link.new ≡ L.counts link.old }
 {
     link.take(connection, count);
@@ -39,7 +47,7 @@ fn refuse_by<L: Link>(link: &mut L, connection: ConnectionId, count: u64, text: 
     link.finish(
         connection,
         Ending {
-            keeps: false,
+            keeps,
             watched: false,
         },
     );

@@ -1,6 +1,6 @@
 //! Inputs that are taken, with their lines.
 
-ghost use Rattle.std.specs.Prelude.{◌≡◌, ◌∷◌, [], IfErr, OnOk};
+ghost use Rattle.std.specs.Prelude.{◌≡◌, ◌∷◌, [], IfErr, IfOk, OnOk};
 ghost use Rattle.oc_model.specs.Lawful.{IsInput};
 ghost use Rattle.oc_deeds.specs.Brief.{told_first};
 ghost use Rattle.oc_deeds.specs.Deeds.{Says, Takes};
@@ -13,12 +13,14 @@ ghost use Rattle.oc_deeds.specs.Telling.{takes_ahead};
 use crate::noting::write_line;
 use crate::server::Server;
 use crate::taking::line_ahead;
-use oc_config::Config;
-use oc_deeds::TurnEnd;
+use oc_base::Memory;
 use oc_deeds::record::told_first;
+use oc_deeds::{Log, TurnEnd};
 use oc_io::{Disk, Sink};
+use oc_keep::Kept;
 use oc_link::Link;
 use oc_model::Input;
+use std::alloc::Global;
 
 impl<D: Disk, L: Link, K: Sink> Server<D, L, K> {
     /// Takes an input without lines after it, and writes those before it.
@@ -47,26 +49,19 @@ impl<D: Disk, L: Link, K: Sink> Server<D, L, K> {
 
     /// Writes the lines of a node that begins.
     pub fn says_first(&mut self) -> Result<(), TurnEnd>
-        requires serving { IsServing self.old }
-        requires areas { self.old.config.areas ≡ self.old.kept.node.control.areas }
+        requires { IsServing self.old }
         ensures did { OnOk result (Did D.view K.takes K.faults L.story L.counts (Says (told_first self.old.log self.old.kept.node.control self.old.kept.content.shelves) ∷ []) self.old self.new) }
         ensures breaks { IfErr result (λ end. NoteBreaks D.view K.takes K.fails K.faults L.story L.counts end (told_first self.old.log self.old.kept.node.control self.old.kept.content.shelves) self.old self.new) }
     {
         self.kept.recovers();
-        let text = told_first(
-            self.alloc,
-            self.log,
-            self.kept.node(),
-            areas_of(&self.config),
-            self.kept.shelf(),
-        )?;
+        let text = first_lines(self.alloc, self.log, &self.kept)?;
         write_line(&mut self.sink, &text)
     }
 }
 
-/// The areas of the nodes of a configuration.
-fn areas_of(config: &Config) -> &[u8]
-    ensures { result.now ≡ config.now.areas }
+/// The lines of a node that begins.
+fn first_lines<D: Disk>(alloc: Global, log: Log, kept: &Kept<D>) -> Result<Vec<u8>, Memory>
+    ensures { IfOk result (λ text. text.items ≡ told_first log kept.now.node.control kept.now.content.shelves) }
 {
-    &config.areas
+    told_first(alloc, log, kept.node(), kept.shelf())
 }

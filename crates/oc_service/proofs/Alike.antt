@@ -1,6 +1,6 @@
 -- Turns do alike with the same bytes of a request, however they were cut.
 use Rattle.std.proofs.Common.{◌≡◌, ◌∙◌, ℕ, ◌+◌, Bool, true, false, Option, None, Some, List, [], ◌∷◌, ◌++◌, length, drop, refl, sym, ap, ap₂, subst}
-use Rattle.std.specs.Prelude.{◌==◌, if◌then◌else◌}
+use Rattle.std.specs.Prelude.{◌==◌, if◌then◌else◌, is_some, unwrap_or}
 use Rattle.std.proofs.lemmas.List.{append_assoc}
 use Rattle.oc_base.specs.Groups.{shelf}
 use Rattle.oc_link.proofs.Stories.{read-then, taken-then, given-then}
@@ -48,9 +48,9 @@ held_cut c d number next permitted permits coming later calls first more =
 -- Turns
 
 -- the number of refused bytes makes no difference to the bytes given
-refused_alike : (c d count more : ℕ) (text : Option (List ℕ)) (calls : List Call) → given c (refuses d count text ++ calls) ≡ given c (refuses d more text ++ calls)
-refused_alike c d count more None calls = refl
-refused_alike c d count more (Some text) calls = refl
+refused_alike : (c d count more : ℕ) (keep : Bool) (text : Option (List ℕ)) (calls : List Call) → given c (refuses d count keep text ++ calls) ≡ given c (refuses d more keep text ++ calls)
+refused_alike c d count more keep None calls = refl
+refused_alike c d count more keep (Some text) calls = refl
 
 alike_at : (due : Option ℕ) (pace : Pace) (probing : Option Probing) (t : Observation) (a b : Arrival) (bytes other : List ℕ) (d count more : ℕ) (v : Verdict) (s : Setting) (r : Running)
     → AreAlike s (Reads t.before ∷ takes_at due pace probing (told_request t a bytes (comes.Request d count v)) s r) (Reads t.before ∷ takes_at due pace probing (told_request t b other (comes.Request d more v)) s r) r
@@ -63,7 +63,7 @@ alike_at None pace probing t a b bytes other d count more (verdicts.Refuse why) 
   lines_are = refl;
   given_are = λ (c : ℕ).
       let after_it : Running = after (Refuses d count why) r in
-      refused_alike c d count more (refusal_text why) (calls_of s (ticks_and_sends pace t.now t.seconds s after_it) after_it);
+      refused_alike c d (unwrap_or why.kept count) (unwrap_or why.kept more) (is_some why.kept) (refusal_text why) (calls_of s (ticks_and_sends pace t.now t.seconds s after_it) after_it);
   node_is = refl;
 }
 

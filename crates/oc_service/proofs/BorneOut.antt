@@ -1,6 +1,6 @@
 -- A line that tells of a failure is written only where the link told of one.
 use Rattle.std.proofs.Common.{◌≡◌, ◌⊎◌, ◌∙◌, ℕ, ◌+◌, ◌-◌, ◌<◌, ◌≤◌, zero, suc, Bool, true, false, Option, None, Some, Result, Ok, Err, List, [], ◌∷◌, ◌++◌, length, take, drop, inl, inr, refl, sym, ap, subst, arith, length-append}
-use Rattle.std.specs.Prelude.{◌==◌, ◌&&◌, if◌then◌else◌, IsTrue, is_some, nat_lt, not, slice_get}
+use Rattle.std.specs.Prelude.{◌==◌, ◌&&◌, if◌then◌else◌, IsTrue, is_some, nat_lt, not, option_map, slice_get}
 use Rattle.std.proofs.lemmas.Bool.{false≢true}
 use Rattle.std.proofs.lemmas.List.{append_assoc, take-append-drop}
 use Rattle.oc_base.specs.Groups.{shelf}
@@ -30,7 +30,7 @@ use Rattle.oc_probe.specs.declared.probing.Probing.{Probing}
 use Rattle.oc_routes.specs.Askers.{asker_in, asker_of}
 use Rattle.oc_routes.specs.declared.asker.Asker.{Asker}
 use Rattle.oc_routes.specs.declared.asker.Asker.TheVariants as askers
-use Rattle.oc_routes.specs.Conditions.{unmet, unmet_at, unmet_by}
+use Rattle.oc_routes.specs.Conditions.{unmet, unmet_at, unmet_by, unmet_in}
 use Rattle.oc_routes.specs.Hints.{asked_with_hint}
 use Rattle.oc_routes.specs.Macs.{is_forged}
 use Rattle.oc_routes.specs.Refusals.{refusing}
@@ -42,15 +42,16 @@ use Rattle.oc_routes.specs.declared.verdict.Verdict.{Verdict}
 use Rattle.oc_routes.specs.declared.verdict.Verdict.TheVariants as verdicts
 use Rattle.oc_routes.specs.declared.waiting.Prospect.{Prospect}
 use Rattle.oc_routes.specs.declared.waiting.Prospect.TheVariants as prospects
-use Rattle.oc_routes.specs.Connections.{awaits_continue, is_last}
+use Rattle.oc_routes.specs.Connections.{awaits_continue, is_last, kept_after, kept_after_head}
 use Rattle.oc_routes.specs.Routes.{input_asked}
+use Rattle.oc_routes.specs.Selections.{line_of, selectors_for}
 use Rattle.oc_routes.specs.declared.refused.Refused.{Refused}
 use Rattle.oc_routes.specs.declared.verdict.Refusal.{Refusal}
 use Rattle.oc_routes.specs.declared.refused.Refused.TheVariants as refusals
 use Rattle.oc_routes.specs.declared.routes.Operation.{Operation}
 use Rattle.oc_routes.specs.declared.routes.Operation.TheVariants as asks
 use Rattle.oc_routes.specs.declared.tally.MessageFault.{MessageFault}
-use Rattle.oc_deeds.specs.Asks.{has_to_wait, obeys, refuses_or, responds, takes_on, takes_up, waiting}
+use Rattle.oc_deeds.specs.Asks.{has_to_wait, obeys, refuses_or, responds, settled_at, takes_on, takes_up, waiting}
 use Rattle.oc_deeds.specs.Brought.{comes_back, fault_of, input_of, refused_of}
 use Rattle.oc_deeds.specs.Choices.{next_to_dial, prospect_of, wait_for}
 use Rattle.oc_deeds.specs.Deeds.{Deed, Drops, Reads, Refuses, Running, Says, Sees, Setting, Takes, Tells, Waits, after, after_all, errand_in, Looks, Rejects, Rereads}
@@ -172,18 +173,18 @@ abbrev FailsBy : Bool → Verdict → Type 0
 FailsBy failed (verdicts.Refuse refusal) = refusal.why ≡ refusals.Source → failed ≡ true
 FailsBy failed v = Unit {0}
 
-other_fails : (failed : Bool) (asker : Asker) (why : Refused) → IsOther why → FailsBy failed (refuse asker why)
-other_fails failed asker why other = λ is. absurd (subst (λ (x : Refused). IsOther x) is other)
+other_fails : (failed : Bool) (asker : Asker) (kept : Option ℕ) (why : Refused) → IsOther why → FailsBy failed (refuse asker kept why)
+other_fails failed asker kept why other = λ is. absurd (subst (λ (x : Refused). IsOther x) is other)
 
 unfinished_fails : (coming : Coming) (none : Bool) → FailsBy (has_failed coming) (unfinished coming none)
 unfinished_fails Open none = tt
 unfinished_fails Ended true = tt
-unfinished_fails Ended false = other_fails false askers.Client refusals.Ended tt
+unfinished_fails Ended false = other_fails false askers.Client None refusals.Ended tt
 unfinished_fails Failed none = λ is. refl
 
 answered_fails : (failed : Bool) (head : Head) (request : Request) (input : Result (Option Input) Refused) → IsSpared input → FailsBy failed (answered head request input)
 answered_fails failed head request (Ok input) spared = tt
-answered_fails failed head request (Err why) spared = other_fails failed (asker_of head) why spared
+answered_fails failed head request (Err why) spared = other_fails failed (asker_of head) (kept_after request.last request.count) why spared
 
 body_fails : (t : NodeTerms) (x : Arrival) (came : ℕ) (head : Head) (rest : List ℕ) (said : Asked) → FailsBy (has_failed x.coming) (with_body t x came head rest said)
 body_fails t x came head rest said = by_permit (awaits_continue head && not x.permitted)
@@ -192,6 +193,8 @@ body_fails t x came head rest said = by_permit (awaits_continue head && not x.pe
     request = record {
       count = came - length rest + head.length;
       asked = said;
+      line = line_of head;
+      selectors = selectors_for said.operation head.selectors;
       input = None;
       last = is_last head x.number;
     }
@@ -199,8 +202,8 @@ body_fails t x came head rest said = by_permit (awaits_continue head && not x.pe
     body : List ℕ
     body = take head.length rest
 
-    by_mac : (b : Bool) → FailsBy (has_failed x.coming) (if b then refuse (asker_of head) refusals.Mac else answered head request (input_asked t.nodes t.me said.operation body))
-    by_mac true = other_fails (has_failed x.coming) (asker_of head) refusals.Mac tt
+    by_mac : (b : Bool) → FailsBy (has_failed x.coming) (if b then refuse (asker_of head) (kept_after request.last request.count) refusals.Mac else answered head request (input_asked t.nodes t.me said.operation body))
+    by_mac true = other_fails (has_failed x.coming) (asker_of head) (kept_after request.last request.count) refusals.Mac tt
     by_mac false = answered_fails (has_failed x.coming) head request (input_asked t.nodes t.me said.operation body) (body_spared t.nodes t.me said.operation body)
 
     by_length : (b : Bool) → FailsBy (has_failed x.coming) (if b then unfinished x.coming false else whole t head request body)
@@ -213,19 +216,19 @@ body_fails t x came head rest said = by_permit (awaits_continue head && not x.pe
 
 routed_fails : (t : NodeTerms) (x : Arrival) (came : ℕ) (head : Head) (rest : List ℕ) (asked : Result Asked Refused) → IsSpared asked → FailsBy (has_failed x.coming) (routed t x came head rest asked)
 routed_fails t x came head rest (Ok said) spared = body_fails t x came head rest said
-routed_fails t x came head rest (Err why) spared = other_fails (has_failed x.coming) (asker_of head) why spared
+routed_fails t x came head rest (Err why) spared = other_fails (has_failed x.coming) (asker_of head) (kept_after_head head x.number (came - length rest)) why spared
 
 verdict_fails : (t : NodeTerms) (x : Arrival) (bytes rest : List ℕ) (answer : Result Head HttpFault) → IsDecided answer → FailsBy (has_failed x.coming) (verdict_for t x bytes rest answer)
 verdict_fails t x bytes rest (Ok head) decided = routed_fails t x (length bytes) head rest (asked_with_hint head t.rules) (head_spared head t.rules)
 verdict_fails t x bytes rest (Err http.Source) decided = absurd decided
 verdict_fails t x bytes rest (Err http.Ended) decided = unfinished_fails x.coming (is_none bytes)
-verdict_fails t x bytes rest (Err http.Head) decided = other_fails (has_failed x.coming) (asker_in (taken bytes rest)) refusals.Head tt
-verdict_fails t x bytes rest (Err http.HeadLong) decided = other_fails (has_failed x.coming) (asker_in (taken bytes rest)) refusals.HeadLong tt
-verdict_fails t x bytes rest (Err http.Fields) decided = other_fails (has_failed x.coming) (asker_in (taken bytes rest)) refusals.Fields tt
-verdict_fails t x bytes rest (Err http.Host) decided = other_fails (has_failed x.coming) (asker_in (taken bytes rest)) refusals.Host tt
-verdict_fails t x bytes rest (Err (http.Coding both)) decided = other_fails (has_failed x.coming) (asker_in (taken bytes rest)) (refusals.Coding both) tt
-verdict_fails t x bytes rest (Err (http.Length missing)) decided = other_fails (has_failed x.coming) (asker_in (taken bytes rest)) (refusals.Length missing) tt
-verdict_fails t x bytes rest (Err http.BodyLong) decided = other_fails (has_failed x.coming) (asker_in (taken bytes rest)) refusals.BodyLong tt
+verdict_fails t x bytes rest (Err http.Head) decided = other_fails (has_failed x.coming) (asker_in (taken bytes rest)) None refusals.Head tt
+verdict_fails t x bytes rest (Err http.HeadLong) decided = other_fails (has_failed x.coming) (asker_in (taken bytes rest)) None refusals.HeadLong tt
+verdict_fails t x bytes rest (Err http.Fields) decided = other_fails (has_failed x.coming) (asker_in (taken bytes rest)) None refusals.Fields tt
+verdict_fails t x bytes rest (Err http.Host) decided = other_fails (has_failed x.coming) (asker_in (taken bytes rest)) None refusals.Host tt
+verdict_fails t x bytes rest (Err (http.Coding both)) decided = other_fails (has_failed x.coming) (asker_in (taken bytes rest)) None (refusals.Coding both) tt
+verdict_fails t x bytes rest (Err (http.Length missing)) decided = other_fails (has_failed x.coming) (asker_in (taken bytes rest)) None (refusals.Length missing) tt
+verdict_fails t x bytes rest (Err http.BodyLong) decided = other_fails (has_failed x.coming) (asker_in (taken bytes rest)) None refusals.BodyLong tt
 verdict_fails t x bytes rest (Err http.Memory) decided = absurd decided
 
 read_fails : (t : NodeTerms) (x : Arrival) (bytes : List ℕ) (v : Verdict) → IsVerdict t x bytes v → FailsBy (has_failed x.coming) v
@@ -241,44 +244,59 @@ refused : (event : LinkEvent) (c count : ℕ) (refusal : Refusal) → (refusal.w
 refused event c count refusal fails = failure_of refusal.why (IsTrue (fails_reading event)) fails
 
 -- a condition that is not met is no failure
-unmet_by_other : (held : ℕ) (at : Option ℕ) (refusal : Refusal) → unmet_by held at ≡ Some refusal → IsOther refusal.why
-unmet_by_other held None refusal is = let none : None ≡ Some refusal = is in absurd (cc none)
-unmet_by_other held (Some at) refusal is = by_test (held == at) is
+unmet_by_other : (held : ℕ) (at : Option ℕ) (why : Refused) → unmet_by held at ≡ Some why → IsOther why
+unmet_by_other held None why is = let none : None ≡ Some why = is in absurd (cc none)
+unmet_by_other held (Some at) why is = by_test (held == at) is
   where
-    by_test : (b : Bool) → (if b then None else Some (refusing (refusals.At held))) ≡ Some refusal → IsOther refusal.why
-    by_test true is = let none : None ≡ Some refusal = is in absurd (cc none)
+    by_test : (b : Bool) → (if b then None else Some (refusals.At held)) ≡ Some why → IsOther why
+    by_test true is = let none : None ≡ Some why = is in absurd (cc none)
     by_test false is =
-        let some : Some (refusing (refusals.At held)) ≡ Some refusal = is in
-        let same : refusing (refusals.At held) ≡ refusal = cc in
-        subst (λ (x : Refusal). IsOther x.why) same tt
+        let some : Some (refusals.At held) ≡ Some why = is in
+        let same : refusals.At held ≡ why = cc in
+        subst (λ (x : Refused). IsOther x) same tt
 
-unmet_at_other : (me : ℕ) (group : List ℕ) (at : Option ℕ) (lines : List Shelf) (refusal : Refusal) → unmet_at me group at lines ≡ Some refusal → IsOther refusal.why
-unmet_at_other me group at lines refusal is = by_test (me == 1) is
+unmet_at_other : (me : ℕ) (group : List ℕ) (at : Option ℕ) (lines : List Shelf) (why : Refused) → unmet_at me group at lines ≡ Some why → IsOther why
+unmet_at_other me group at lines why is = by_test (me == 1) is
   where
-    by_test : (b : Bool) → (if b then unmet_by (holding group lines).held at else None) ≡ Some refusal → IsOther refusal.why
-    by_test true is = unmet_by_other (holding group lines).held at refusal is
-    by_test false is = let none : None ≡ Some refusal = is in absurd (cc none)
+    by_test : (b : Bool) → (if b then unmet_by (holding group lines).held at else None) ≡ Some why → IsOther why
+    by_test true is = unmet_by_other (holding group lines).held at why is
+    by_test false is = let none : None ≡ Some why = is in absurd (cc none)
 
-unmet_other : (asked : Operation) (me : ℕ) (lines : List Shelf) (refusal : Refusal) → unmet asked me lines ≡ Some refusal → IsOther refusal.why
-unmet_other (asks.Publish group at) me lines refusal is = unmet_at_other me group at lines refusal is
-unmet_other (asks.Seal group at) me lines refusal is = unmet_at_other me group at lines refusal is
-unmet_other other me lines refusal is = let none : None ≡ Some refusal = is in absurd (cc none)
+unmet_in_other : (asked : Operation) (me : ℕ) (lines : List Shelf) (why : Refused) → unmet_in asked me lines ≡ Some why → IsOther why
+unmet_in_other (asks.Publish group at) me lines why is = unmet_at_other me group at lines why is
+unmet_in_other (asks.Seal group at) me lines why is = unmet_at_other me group at lines why is
+unmet_in_other other me lines why is = let none : None ≡ Some why = is in absurd (cc none)
+
+-- a refusal that was made of a fault has that fault
+refusing_other : (kept : Option ℕ) (found : Option Refused) (refusal : Refusal) → ((why : Refused) → found ≡ Some why → IsOther why) → option_map (refusing kept) found ≡ Some refusal → IsOther refusal.why
+refusing_other kept None refusal others is = let none : None ≡ Some refusal = is in absurd (cc none)
+refusing_other kept (Some why) refusal others is =
+    let some : Some (refusing kept why) ≡ Some refusal = is in
+    let same : refusing kept why ≡ refusal = cc in
+    subst (λ (x : Refusal). IsOther x.why) same (others why refl)
+
+unmet_other : (request : Request) (me : ℕ) (lines : List Shelf) (refusal : Refusal) → unmet request me lines ≡ Some refusal → IsOther refusal.why
+unmet_other request me lines refusal is =
+    refusing_other (kept_after request.last request.count) (unmet_in request.asked.operation me lines) refusal (λ why found. unmet_in_other request.asked.operation me lines why found) is
 
 mild_responds : (r : Pending) (input : Option Input) (now : ℕ) (s : Setting) (a : Running) → all_mild (responds r input now s a) ≡ true
 mild_responds r None now s a = refl
 mild_responds r (Some i) now s a = refl
 
 taken_on : (event : LinkEvent) (c : ℕ) (request : Request) (now : ℕ) (s : Setting) (a : Running) → AreBorneOut event (takes_on c request now s a)
-taken_on event c request now s a = by_condition (unmet request.asked.operation a.node.control.me (shelf a.node.groups)) refl
+taken_on event c request now s a = by_condition (unmet request a.node.control.me (shelf a.node.groups)) refl
   where
-    by_test : (b : Bool) → AreBorneOut event (if b then Waits (waiting c request now) ∷ [] else responds (pending c request (is_some request.input) false) request.input now s a)
-    by_test true = (tt, tt)
-    by_test false = borne_mild event (responds (pending c request (is_some request.input) false) request.input now s a) (mild_responds (pending c request (is_some request.input) false) request.input now s a)
+    here : Request
+    here = settled_at a.node.groups request
 
-    by_condition : (why : Option Refusal) → unmet request.asked.operation a.node.control.me (shelf a.node.groups) ≡ why → AreBorneOut event (refuses_or why c request now s a)
+    by_test : (b : Bool) → AreBorneOut event (if b then Waits (waiting c here now) ∷ [] else responds (pending c here (is_some here.input) false) here.input now s a)
+    by_test true = (tt, tt)
+    by_test false = borne_mild event (responds (pending c here (is_some here.input) false) here.input now s a) (mild_responds (pending c here (is_some here.input) false) here.input now s a)
+
+    by_condition : (why : Option Refusal) → unmet request a.node.control.me (shelf a.node.groups) ≡ why → AreBorneOut event (refuses_or why c request now s a)
     by_condition (Some why) is =
-        (refused event c request.count why (λ source. absurd (subst (λ (x : Refused). IsOther x) source (unmet_other request.asked.operation a.node.control.me (shelf a.node.groups) why is))), tt)
-    by_condition None is = by_test (has_to_wait request a.node)
+        (refused event c request.count why (λ source. absurd (subst (λ (x : Refused). IsOther x) source (unmet_other request a.node.control.me (shelf a.node.groups) why is))), tt)
+    by_condition None is = by_test (has_to_wait here a.node)
 
 obeyed : (event : LinkEvent) (c count : ℕ) (v : Verdict) (now : ℕ) (s : Setting) (a : Running) → FailsBy (fails_reading event) v → AreBorneOut event (obeys c count v now s a)
 obeyed event c count verdicts.Wait now s a fails = tt
@@ -360,7 +378,7 @@ taken_up None now s a = refl
 taken_up (Some (works.Content p)) now s a = refl
 taken_up (Some (works.Aside p)) now s a = mild_moves p now (prospect_of p (shelf a.node.groups) now)
 taken_up (Some (works.Waits w)) now s a =
-    mild_responds (pending w.connection w.request (is_some (client_input w.request.asked.operation w.request.asked.hint)) true) (client_input w.request.asked.operation w.request.asked.hint) now s a
+    mild_responds (pending w.connection w.request (is_some (client_input w.request.asked)) true) (client_input w.request.asked) now s a
 
 mild_due : (pace : Pace) (o : Option Work) (before seconds : ℕ) (s : Setting) (a : Running) → all_mild (takes_due pace o before seconds s a) ≡ true
 mild_due pace o before seconds s a =
@@ -397,7 +415,7 @@ mild_settled (Ok new) old s a = mild_measured (fresh s.me old new) s (after (Rer
 mild_by : (r : Reread) (s : Setting) (a : Running) → all_mild (goes_by r s a) ≡ true
 mild_by rereads.Nothing s a = refl
 mild_by (rereads.Unfit why) s a = refl
-mild_by (rereads.Config new) s a = mild_settled (fitting s.me a.config new) a.config s a
+mild_by (rereads.Config new) s a = mild_settled (fitting s a.config new) a.config s a
 
 mild_looks : (look : Look) (r : Reread) (s : Setting) (a : Running) → all_mild (looks_again look r s a) ≡ true
 mild_looks look r s a = mild_by r s (after (Looks look) a)

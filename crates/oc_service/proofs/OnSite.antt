@@ -17,12 +17,16 @@ use Rattle.oc_keep.proofs.Stays.{all_honest}
 use Rattle.oc_keep.specs.Files.{Disks, AllGoOn, AreHonest, Leaves, SameAsEither, Survives, disks_in}
 use Rattle.oc_keep.specs.KeptView.{IsFullAt, IsFullOn, IsHonest, KeptView, NodeSurvives, disks_of, header_of, node_of}
 use Rattle.oc_keep.specs.Promises.{ChangesNothing, IsNodeOf, LoadsSafely}
-use Rattle.oc_keep.specs.Trials.{after_inputs, first_node}
+use Rattle.oc_keep.specs.Trials.{first_node}
+use Rattle.oc_keep.proofs.Areas.{survives_areas}
 use Rattle.oc_model.specs.declared.input.Input.{Input}
 use Rattle.oc_model.specs.Node.{Control, Header, Node}
 use Rattle.oc_model.specs.Step.{step}
 use Rattle.oc_routes.specs.Responses.{address_of}
 use Rattle.oc_deeds.specs.Answered.{AreAnswered}
+use Rattle.oc_deeds.specs.Changes.{KeepAreas, after_changes, changes_of}
+use Rattle.oc_deeds.specs.Records.{is_record}
+use Rattle.oc_deeds.specs.declared.log.Log.TheVariants.{Record}
 use Rattle.oc_deeds.specs.Deeds.{Deed, Setting, calls_of, inputs_of, line, lines}
 use Rattle.oc_server.specs.Moments.{AtEachPrefix}
 use Rattle.oc_deeds.specs.Under.{Cuts}
@@ -36,8 +40,10 @@ use Rattle.oc_deeds.specs.declared.ends.TurnEnd.TheVariants as ends
 use Rattle.oc_deeds.specs.declared.log.Log.{Log}
 use Rattle.oc_server.specs.declared.server.Server.{Server}
 use Rattle.oc_server.specs.declared.turns.Turns.{Turns}
+use Rattle.oc_server.proofs.Looking.{seated}
+use Rattle.oc_server.proofs.Moments.{ends_areas}
 use Rattle.oc_server.proofs.Scenes.{broken_cause, broken_leaves, broken_text, did_node, setting_stays, still_honest}
-use Rattle.oc_service.specs.OnSite.{CountsUntil, DidOn, HasCauseOn, IsFullFor, LeavesBehind, LeavesOne, NodeEnds, Stops, WasDeaf, Writes, at_run, header_of_settings, heard_before, machine_on, node_calls, setting_of}
+use Rattle.oc_service.specs.OnSite.{CountsUntil, DidOn, HasCauseOn, IsFullFor, LeavesBehind, LeavesOne, NodeEnds, Stops, WasDeaf, Writes, at_run, header_for, heard_before, machine_on, node_calls, setting_of}
 use Rattle.oc_service.specs.AtAnyMoment.{AlwaysRecovers}
 use Rattle.oc_service.specs.Failures.{AreBorneOut}
 use Rattle.oc_service.specs.Loading.{IsLoaded}
@@ -60,8 +66,8 @@ module _ {D L K : Type 0} (view : D → DiskView) (takes fails : K → List ℕ 
     (takes_nothing : (k : K) → takes k [] k) (takes_then : (a b c : K) (x y : List ℕ) → takes a x b → takes b y c → takes a (x ++ y) c)
     (takes_fails : (a b c : K) (x y : List ℕ) → takes a x b → fails b y c → fails a (x ++ y) c)
     (task : Task) (d : Disks D) (first last : Turns D L K)
-    (loaded : IsNodeOf view (header_of_settings first.server.config) task.me d first.server.kept)
-    (safely : LoadsSafely view (header_of_settings first.server.config) task.me d (disks_of first.server.kept))
+    (loaded : IsNodeOf view (header_for task first.server.config) task.me d first.server.kept)
+    (safely : LoadsSafely view (header_for task first.server.config) task.me d (disks_of first.server.kept))
     (log : first.server.log ≡ task.log) (begins : AreHonest view d → machine first ≡ machine_on view first.server.config task d)
     (recovers : last.server.kept.closed ≡ false → IsHonest view last.server.kept → NodeSurvives view last.server.kept (node_of last.server.kept))
     (full : last.server.kept.closed ≡ false → IsHonest view last.server.kept → (i : Input) → IsFullAt last.server.kept i → IsFullOn view (disks_of last.server.kept) (node_of last.server.kept) i) where
@@ -69,7 +75,7 @@ module _ {D L K : Type 0} (view : D → DiskView) (takes fails : K → List ℕ 
   c = first.server.config
 
   abbrev h : Header
-  h = header_of_settings c
+  h = header_for task c
 
   abbrev me : ℕ
   me = task.me
@@ -176,7 +182,12 @@ module _ {D L K : Type 0} (view : D → DiskView) (takes fails : K → List ℕ 
 
     -- the inputs of deeds
     within_on : (deeds : List Deed) (at : Server D L K) → Did view takes faults story counts deeds l at → AllByRecursion (IsWithin h.nodes me) (inputs_of deeds)
-    within_on deeds at did = named (λ x y. AllByRecursion (IsWithin x.nodes y) (inputs_of deeds)) (kept_within view (inputs_of deeds) first.server.kept at.kept did.keeps)
+    within_on deeds at did = named (λ x y. AllByRecursion (IsWithin x.nodes y) (inputs_of deeds)) (kept_within view deeds first.server.kept at.kept did.keeps)
+
+    -- the areas that a record tells
+    areas_on : AreHonest view d → (deeds : List Deed) (at : Server D L K) → Did view takes faults story counts deeds l at → task.log ≡ Record → KeepAreas at_first_node.control deeds
+    areas_on honest deeds at did is =
+        subst (λ (n : Node). KeepAreas n.control deeds) (loaded.node honest) (did.recorded (ap is_record (log ∙ is))).each
 
     -- the nodes that crashes leave at each prefix of deeds, and after them
     moments_on : AreHonest view d → (deeds : List Deed) (at : Server D L K) → Did view takes faults story counts deeds l at → (under : Under)
@@ -189,11 +200,10 @@ module _ {D L K : Type 0} (view : D → DiskView) (takes fails : K → List ℕ 
           subst (λ (x : Setting). AtEachPrefix view h me takes (line x) deeds at_first_node (disks_of first.server.kept) first.server.sink (disks_of at.kept) at.sink) setting_is
           (subst (λ (n : Node). AtEachPrefix view h me takes (line (setting first.server)) deeds n (disks_of first.server.kept) first.server.sink (disks_of at.kept) at.sink) (loaded.node honest)
           (named (λ x y. AtEachPrefix view x y takes (line (setting first.server)) deeds (node_of first.server.kept) (disks_of first.server.kept) first.server.sink (disks_of at.kept) at.sink) (did.moments (honest_kept honest))));
-      ends = subst (λ (n : Node). EndsOn view h me (after_inputs n (inputs_of deeds)) under (disks_of at.kept) e) (loaded.node honest)
+      ends = subst (λ (n : Node). EndsOn view h me (after_changes n (changes_of deeds)) under (disks_of at.kept) e) (loaded.node honest)
           (subst (λ (n : Node). EndsOn view h me n under (disks_of at.kept) e) (did_node view takes fails faults story counts deeds l at did (honest_kept honest))
           (named (λ x y. EndsOn view x y (node_of at.kept) under (disks_of at.kept) e)
-          (subst (λ (x : Header). EndsOn view x first.server.kept.node.control.me (node_of at.kept) under (disks_of at.kept) e) did.same.header
-          (subst (λ (y : ℕ). EndsOn view (header_of at.kept.node.control) y (node_of at.kept) under (disks_of at.kept) e) did.same.me behind))));
+          (seated (λ x y. EndsOn view x y (node_of at.kept) under (disks_of at.kept) e) (λ areas x y. ends_areas view areas x y (node_of at.kept) under (disks_of at.kept) e) first.server.kept at.kept did.same behind)));
     }
 
     -- All turns
@@ -226,16 +236,16 @@ module _ {D L K : Type 0} (view : D → DiskView) (takes fails : K → List ℕ 
           subst (λ (ds : List Deed). AreBorneOut Quiet ds) (sym (deeds_on honest told deeds are))
           (node_borne Quiet (heard_before c me (story first.server.link) (story last.server.link)) (setting_of task) c.measures told m (heard_told honest told deeds did heard));
       recorded = λ honest. node_record (setting_of task) c.measures told m deeds (deeds_on honest told deeds are);
+      areas = λ honest is. areas_on honest deeds last.server did is;
       within = within_on deeds last.server did;
       counted = subst (λ (x : LinkCounts). CountsAll deeds x (counts last.server.link)) listens.counted did.counted;
       goes_on = all_go_on_then view d (disks_of first.server.kept) e safely.goes_on did.goes_on;
       survives = λ honest.
-          subst (λ (n : Node). Survives view h me e (after_inputs n (inputs_of deeds))) (loaded.node honest)
+          subst (λ (n : Node). Survives view h me e (after_changes n (changes_of deeds))) (loaded.node honest)
           (subst (λ (n : Node). Survives view h me e n) (did_node view takes fails faults story counts deeds l last.server did (honest_kept honest))
           (named (λ x y. Survives view x y e (node_of last.server.kept))
-          (subst (λ (x : Header). Survives view x first.server.kept.node.control.me e (node_of last.server.kept)) did.same.header
-          (subst (λ (y : ℕ). Survives view (header_of last.server.kept.node.control) y e (node_of last.server.kept)) did.same.me
-          (recovers did.is_open (all_honest view (disks_of first.server.kept) e did.goes_on (honest_kept honest)))))));
+          (seated (λ x y. Survives view x y e (node_of last.server.kept)) (λ areas x y. survives_areas view areas x y e (node_of last.server.kept)) first.server.kept last.server.kept did.same
+          (recovers did.is_open (all_honest view (disks_of first.server.kept) e did.goes_on (honest_kept honest))))));
       moments = λ honest. moments_on honest deeds last.server did Idle (0, refl);
     }
 
@@ -257,7 +267,7 @@ module _ {D L K : Type 0} (view : D → DiskView) (takes fails : K → List ℕ 
     module _ (deeds : List Deed) (under : Under) where
       -- the node after the deeds
       abbrev n : Node
-      n = after_inputs at_first_node (inputs_of deeds)
+      n = after_changes at_first_node (changes_of deeds)
 
       -- a file is full for the input under way at a node that nothing changed
       full_on : (i : Input) → BreaksAfter view takes fails faults story counts ends.Full deeds (Taking i) l last.server → IsFullFor view i n d e
@@ -266,7 +276,7 @@ module _ {D L K : Type 0} (view : D → DiskView) (takes fails : K → List ℕ 
           subst (λ (x : Node). IsFullOn view e x i)
           (unchanged at.kept last.server.kept before breaks.meets.1.nothing
           ∙ did_node view takes fails faults story counts deeds l at did (honest_kept honest)
-          ∙ ap (λ (x : Node). after_inputs x (inputs_of deeds)) (loaded.node honest))
+          ∙ ap (λ (x : Node). after_changes x (changes_of deeds)) (loaded.node honest))
           (full (breaks.meets.1.still ∙ did.is_open) (all_honest view (disks_of at.kept) e breaks.goes_on before) i breaks.cause) where
             unchanged : (a b : KeptView D) → IsHonest view a → ChangesNothing view a b → node_of b ≡ node_of a
             unchanged a b honest same = ap₂ (λ (x : Control) (y : List (List ℕ)). record { control = x; groups = groups_in y }) same.control (same.content.journal.frames honest.content)
@@ -369,11 +379,12 @@ module _ {D L K : Type 0} (view : D → DiskView) (takes fails : K → List ℕ 
               (all_calls_after (setting_of task) r.told (begun (setting_of task) c.measures m) (heard_before c me (story first.server.link) (story last.server.link))) (cut honest).front
               (last_on link listens honest r.told r.last r.deeds (follows honest) (r.last_heard (honest_kept honest)));
           recorded = λ honest. cut_record (setting_of task) c.measures r.told r.last m r.deeds r.under (cut honest);
+          areas = λ honest is. areas_on link listens honest r.deeds breaks.0 breaks.1 is;
           within = within_all link listens r.deeds r.under end breaks;
           counted = counted_all link listens r.deeds r.under end breaks;
           goes_on = goes_on_all link listens r.deeds r.under end breaks;
           leaves = λ honest.
-              subst (λ (x : Node). LeavesBehind view h me e end (after_inputs x (inputs_of r.deeds)) r.under) (loaded.node honest)
+              subst (λ (x : Node). LeavesBehind view h me e end (after_changes x (changes_of r.deeds)) r.under) (loaded.node honest)
               (behind_on link listens end _ r.under (broken_leaves view takes fails faults story counts r.deeds r.under end l last.server breaks (honest_kept honest)));
           so_far = breaks.0.sink;
           rest = rest_on link listens r.deeds r.under end breaks;

@@ -65,6 +65,7 @@ module _ {D K J : Type 0} (view : D → DiskView) (takes fails : K → List ℕ 
       replies = did.replies;
       failures = did.failures;
       recorded = did.recorded;
+      areas = did.areas;
       within = did.within;
       counted = did.counted;
       goes_on = did.goes_on;
@@ -86,6 +87,7 @@ module _ {D K J : Type 0} (view : D → DiskView) (takes fails : K → List ℕ 
       replies = stopped.replies;
       failures = stopped.failures;
       recorded = stopped.recorded;
+      areas = stopped.areas;
       within = stopped.within;
       counted = stopped.counted;
       goes_on = stopped.goes_on;

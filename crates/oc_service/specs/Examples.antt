@@ -48,18 +48,18 @@ request coming = events.Request (arrival 8 1 false coming)
 
 -- The deeds of a turn that is told such a request, with these new bytes and this number of bytes held, and that refuses the request.
 abbrev refuses : Coming → List ℕ → ℕ → Refused → List Deed
-refuses coming bytes count why = turn ticked None (told_request quiet (arrival 8 1 false coming) bytes (comes.Request 8 count (verdicts.Refuse (refusing why)))) example idle
+refuses coming bytes count why = turn ticked None (told_request quiet (arrival 8 1 false coming) bytes (comes.Request 8 count (verdicts.Refuse (refusing None why)))) example idle
 
 pub record AreTold : Type 0 where
   -- `! source` after a read that failed, and `! write` after a reply that could not be sent
-  pub reads : refuses comings.Failed (codes "GE") 2 refusals.Source ≡ Reads 0 ∷ Sees (request comings.Failed) 100 (codes "GE") ∷ Reads 5 ∷ Refuses 8 2 (refusing refusals.Source) ∷ Looks looks.Nothing ∷ []
+  pub reads : refuses comings.Failed (codes "GE") 2 refusals.Source ≡ Reads 0 ∷ Sees (request comings.Failed) 100 (codes "GE") ∷ Reads 5 ∷ Refuses 8 2 (refusing None refusals.Source) ∷ Looks looks.Nothing ∷ []
   pub read : AreBorneOut events.Quiet (refuses comings.Failed (codes "GE") 2 refusals.Source)
   pub sent : AreBorneOut events.Quiet (Sees (events.Gone 8 losses.Failed) 100 [] ∷ Reads 5 ∷ Drops 8 true ∷ [])
   -- a failure is not borne out by a request that ended, nor by a connection that gave way
   pub ended : AreBorneOut events.Quiet (refuses comings.Ended (codes "GE") 2 refusals.Source) → ⊥
   pub gave_way : AreBorneOut events.Quiet (Sees (events.Gone 8 losses.GaveWay) 100 [] ∷ Reads 5 ∷ Drops 8 true ∷ []) → ⊥
   -- a failure is not borne out a turn later
-  pub late : AreBorneOut events.Quiet (Sees (request comings.Failed) 100 [] ∷ Sees events.Quiet 100 [] ∷ Refuses 8 2 (refusing refusals.Source) ∷ []) → ⊥
+  pub late : AreBorneOut events.Quiet (Sees (request comings.Failed) 100 [] ∷ Sees events.Quiet 100 [] ∷ Refuses 8 2 (refusing None refusals.Source) ∷ []) → ⊥
 
 pub record AreCut : Type 0 where
   -- a request in two pieces

@@ -16,32 +16,32 @@ use Rattle.oc_server.specs.Lawful.{IsReady}
 use Rattle.oc_deeds.specs.Pace.{first_pace, most_interval}
 use Rattle.oc_deeds.specs.Records.{is_record}
 use Rattle.oc_server.specs.declared.turns.Turns.{Turns}
-use Rattle.oc_service.specs.OnSite.{header_of_settings, probing_at_first}
+use Rattle.oc_service.specs.OnSite.{header_by, header_for, probing_at_first}
 use Rattle.oc_service.specs.declared.running.Task.{Task}
 use Rattle.oc_service.specs.declared.site.Site.{Site}
 
 -- the state of a node besides its files: the areas, no messages to send, nothing counted, and the
 -- state of its probing
-pub record IsEquipped (c : Settings) (probes : Bool) (me : ℕ) (areas : List ℕ) (outbox : List Message) (tally : TallyView) (probing : Option Probing) : Type 0 where
-  pub same : areas ≡ c.areas
+pub record IsEquipped (c : Settings) (recorded probes : Bool) (me : ℕ) (areas : List ℕ) (outbox : List Message) (tally : TallyView) (probing : Option Probing) : Type 0 where
+  pub same : areas ≡ (header_by recorded c).areas
   pub bytes : AllByRecursion (λ a. a ≤ MAX_AREA) areas
   pub empty : outbox ≡ []
-  pub uncounted : tally ≡ first_tally (length c.addresses)
-  pub first : probing ≡ probing_at_first probes me c.addresses
-  pub made : IfSome probing (IsMadeFor (length c.addresses))
+  pub uncounted : tally ≡ first_tally (header_by recorded c).nodes
+  pub first : probing ≡ probing_at_first probes (header_by recorded c).nodes me c.addresses
+  pub made : IfSome probing (IsMadeFor (header_by recorded c).nodes)
 
 -- The node recovered from the files, ready to turn, with no message to send and no request under
 -- way.
 pub record IsLoaded {D L K : Type 0} (view : D → DiskView) (c : Settings) (task : Task) (site : Site D L K) (turns : Turns D L K) : Type 0 where
   pub ready : IsReady turns
-  pub node : IsNodeOf view (header_of_settings c) task.me (disks_in site.files) turns.server.kept
-  pub safely : LoadsSafely view (header_of_settings c) task.me (disks_in site.files) (disks_of turns.server.kept)
+  pub node : IsNodeOf view (header_for task c) task.me (disks_in site.files) turns.server.kept
+  pub safely : LoadsSafely view (header_for task c) task.me (disks_in site.files) (disks_of turns.server.kept)
   pub outbox : turns.server.outbox ≡ []
   pub works : turns.server.works ≡ []
   pub dials : turns.server.dials ≡ []
-  pub tally : turns.server.tally ≡ first_tally (length c.addresses)
+  pub tally : turns.server.tally ≡ first_tally (header_for task c).nodes
   pub pace : turns.pace ≡ first_pace (is_record task.log) (most_interval task.probes task.me)
-  pub probing : turns.probing ≡ probing_at_first task.probes task.me c.addresses
+  pub probing : turns.probing ≡ probing_at_first task.probes (header_for task c).nodes task.me c.addresses
   pub reading : turns.reading ≡ Some task.text
   pub config : turns.server.config ≡ c
   pub log : turns.server.log ≡ task.log
@@ -50,8 +50,8 @@ pub record IsLoaded {D L K : Type 0} (view : D → DiskView) (c : Settings) (tas
   pub sink : turns.server.sink ≡ site.sink
 
 -- The node was not loaded, for this reason, and its site was given back.
-pub record IsUnloaded {D L K : Type 0} (view : D → DiskView) (c : Settings) (me : ℕ) (site back : Site D L K) (error : KeepLoad) : Type 0 where
+pub record IsUnloaded {D L K : Type 0} (view : D → DiskView) (c : Settings) (task : Task) (site back : Site D L K) (error : KeepLoad) : Type 0 where
   pub refuses : RefusesNode view (length c.addresses) (disks_in site.files) (disks_in back.files) error
-  pub safely : LoadsSafely view (header_of_settings c) me (disks_in site.files) (disks_in back.files)
+  pub safely : LoadsSafely view (header_for task c) task.me (disks_in site.files) (disks_in back.files)
   pub link : back.link ≡ site.link
   pub sink : back.sink ≡ site.sink

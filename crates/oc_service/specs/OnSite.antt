@@ -15,7 +15,7 @@ use Rattle.oc_io.specs.Faults.{Rose}
 use Rattle.oc_keep.specs.Files.{Disks, AllGoOn, AreHonest, Leaves, OneRose, SameAsEither, Survives}
 use Rattle.oc_keep.specs.KeptView.{IsFullOn, header}
 use Rattle.oc_keep.specs.Promises.{LoadsSafely, RefusesNode}
-use Rattle.oc_keep.specs.Trials.{after_inputs, first_node}
+use Rattle.oc_keep.specs.Trials.{first_node}
 use Rattle.oc_keep.specs.Errors.{IsOutOfMemory}
 use Rattle.oc_keep.specs.declared.errors.KeepLoad.{KeepLoad}
 use Rattle.oc_model.specs.declared.input.Input.{Input}
@@ -25,6 +25,10 @@ use Rattle.oc_probe.specs.Turns.{peers_of}
 use Rattle.oc_probe.specs.declared.probing.Probing.{Probing}
 use Rattle.oc_routes.specs.Responses.{address_of}
 use Rattle.oc_routes.specs.Sights.{about_of}
+use Rattle.oc_base.specs.declared.limits.TheConstants.{MAX_NODES}
+use Rattle.oc_deeds.specs.Areas.{areas_among}
+use Rattle.oc_deeds.specs.Changes.{KeepAreas, after_changes, changes_of}
+use Rattle.oc_deeds.specs.declared.log.Log.TheVariants.{Record}
 use Rattle.oc_deeds.specs.Deeds.{Deed, Setting, calls_of, inputs_of, line, lines}
 use Rattle.oc_deeds.specs.Pace.{most_interval}
 use Rattle.oc_deeds.specs.Under.{Cuts}
@@ -48,9 +52,18 @@ use Rattle.oc_service.specs.declared.running.Task.{Task}
 
 -- A node of a configuration
 
--- the header of the node's network
+-- the header of the network of a configuration
 abbrev pub header_of_settings : Settings → Header
 header_of_settings c = header (length c.addresses) c.chain c.chunk c.areas
+
+-- the header that a node is loaded with: that of its configuration, if it writes a record, which has one header; any other node has room for all
+-- ids that there can be, so that more nodes may come while it runs
+abbrev pub header_by : Bool → Settings → Header
+header_by true c = header_of_settings c
+header_by false c = header MAX_NODES c.chain c.chunk (areas_among MAX_NODES c.areas)
+
+abbrev pub header_for : Task → Settings → Header
+header_for task c = header_by (is_record task.log) c
 
 -- the number of the node, and the form of the log
 abbrev pub setting_of : Task → Setting
@@ -60,17 +73,17 @@ setting_of task = record {
 }
 
 -- the state of probing at first: no rates of peers, and all other nodes that have an address in turn
-abbrev pub probing_of : ℕ → List (Option (List ℕ)) → Probing
-probing_of me addresses = record { gauge = replicate (length addresses) []; rotation = record { coming = peers_of me addresses } }
+abbrev pub probing_of : ℕ → ℕ → List (Option (List ℕ)) → Probing
+probing_of nodes me addresses = record { gauge = replicate nodes []; rotation = record { coming = peers_of me addresses } }
 
-abbrev pub probing_at_first : Bool → ℕ → List (Option (List ℕ)) → Option Probing
-probing_at_first true me addresses = Some (probing_of me addresses)
-probing_at_first false me addresses = None
+abbrev pub probing_at_first : Bool → ℕ → ℕ → List (Option (List ℕ)) → Option Probing
+probing_at_first true nodes me addresses = Some (probing_of nodes me addresses)
+probing_at_first false nodes me addresses = None
 
 -- the machine of the node recovered from its files
 abbrev pub machine_on : {D : Type 0} → (D → DiskView) → Settings → Task → Disks D → Machine
-machine_on view c task d = at_first (is_record task.log) (most_interval task.probes task.me) (probing_at_first task.probes task.me c.addresses) task.text
-    (node_at_first c (about_of task.about) (first_node view (header_of_settings c) task.me d))
+machine_on view c task d = at_first (is_record task.log) (most_interval task.probes task.me) (probing_at_first task.probes (header_for task c).nodes task.me c.addresses) task.text
+    (node_at_first c (about_of task.about) (first_node view (header_for task c) task.me d))
 
 -- The link of the node
 
@@ -87,8 +100,8 @@ heard_before c me old new = option_map (λ (cs : List Call). cs ++ acts.Listen (
 -- The deeds are those of the machine, in this number of turns, for the reports of the link. Each
 -- deed made its calls, each connection was given the replies to its requests, a line of a failure
 -- was written only if the link reported one, a record has their inputs, which are within their
--- ranges, and every crash leaves the node that took them; at every moment of the run the same holds
--- of a prefix of the deeds, whose lines were written.
+-- ranges, and keeps the areas of the node, and every crash leaves the node after the deeds; at every
+-- moment of the run the same holds of a prefix of the deeds, whose lines were written.
 pub record DidOn {D L K : Type 0} (view : D → DiskView) (story : L → Option (List Call)) (counts : L → LinkCounts) (takes : K → List ℕ → K → Type 0) (c : Settings) (task : Task) (deeds : List Deed) (old new : Disks D) (link after : L) (sink written : K) : Type 0 where
   pub told : List Observation
   pub many : length told ≡ task.turns
@@ -98,12 +111,13 @@ pub record DidOn {D L K : Type 0} (view : D → DiskView) (story : L → Option 
   pub calls : AreHonest view old → AddsAll (node_calls c task deeds (machine_on view c task old)) (story link) (story after)
   pub replies : AreHonest view old → GivesReplies (setting_of task) deeds (machine_on view c task old).running (heard_before c task.me (story link) (story after)) (story after)
   pub failures : AreHonest view old → AreBorneOut Quiet deeds
-  pub recorded : AreHonest view old → IsRecordOf (setting_of task) (first_node view (header_of_settings c) task.me old) deeds []
-  pub within : AllByRecursion (IsWithin (length c.addresses) task.me) (inputs_of deeds)
+  pub recorded : AreHonest view old → IsRecordOf (setting_of task) (first_node view (header_for task c) task.me old) deeds []
+  pub areas : AreHonest view old → task.log ≡ Record → KeepAreas (first_node view (header_for task c) task.me old).control deeds
+  pub within : AllByRecursion (IsWithin (header_for task c).nodes task.me) (inputs_of deeds)
   pub counted : CountsAll deeds (counts link) (counts after)
   pub goes_on : AllGoOn view old new
-  pub survives : AreHonest view old → Survives view (header_of_settings c) task.me new (after_inputs (first_node view (header_of_settings c) task.me old) (inputs_of deeds))
-  pub moments : AreHonest view old → AlwaysRecovers view (header_of_settings c) task.me takes (line (setting_of task)) deeds Idle old new sink written
+  pub survives : AreHonest view old → Survives view (header_for task c) task.me new (after_changes (first_node view (header_for task c) task.me old) (changes_of deeds))
+  pub moments : AreHonest view old → AlwaysRecovers view (header_for task c) task.me takes (line (setting_of task)) deeds Idle old new sink written
 
 -- An early end
 
@@ -147,7 +161,7 @@ pub record StoppedOn {D L K : Type 0} (view : D → DiskView) (story : L → Opt
   pub told : List Observation
   pub last : Observation
   -- fewer turns than were asked for come before the last one, or the run ended before the first
-  pub few : (length told < task.turns) ⊎ (AreHonest view old → Cuts (begins (setting_of task) c.measures (first_node view (header_of_settings c) task.me old)) deeds under)
+  pub few : (length told < task.turns) ⊎ (AreHonest view old → Cuts (begins (setting_of task) c.measures (first_node view (header_for task c) task.me old)) deeds under)
   pub cut : AreHonest view old
       → Cuts (node_deeds (setting_of task) c.measures told (machine_on view c task old) ++ turn_deeds (setting_of task) last (machine_after (setting_of task) c.measures told (machine_on view c task old))) deeds under
   pub heard : AreHonest view old
@@ -161,22 +175,23 @@ pub record StoppedOn {D L K : Type 0} (view : D → DiskView) (story : L → Opt
   pub calls : AreHonest view old → AddsAll (node_calls c task deeds (machine_on view c task old)) (story link) (story after)
   pub replies : AreHonest view old → GivesReplies (setting_of task) deeds (machine_on view c task old).running (heard_before c task.me (story link) (story after)) (story after)
   pub failures : (honest : AreHonest view old) → AreBorneOut Quiet (deeds ++ take 1 (cut honest).behind)
-  pub recorded : (honest : AreHonest view old) → IsRecordOf (setting_of task) (first_node view (header_of_settings c) task.me old) deeds (cut honest).behind
-  pub within : AllByRecursion (IsWithin (length c.addresses) task.me) (inputs_of deeds)
+  pub recorded : (honest : AreHonest view old) → IsRecordOf (setting_of task) (first_node view (header_for task c) task.me old) deeds (cut honest).behind
+  pub areas : AreHonest view old → task.log ≡ Record → KeepAreas (first_node view (header_for task c) task.me old).control deeds
+  pub within : AllByRecursion (IsWithin (header_for task c).nodes task.me) (inputs_of deeds)
   pub counted : CountsUntil end deeds (counts link) (counts after)
   pub goes_on : AllGoOn view old new
-  pub leaves : AreHonest view old → LeavesBehind view (header_of_settings c) task.me new end (after_inputs (first_node view (header_of_settings c) task.me old) (inputs_of deeds)) under
+  pub leaves : AreHonest view old → LeavesBehind view (header_for task c) task.me new end (after_changes (first_node view (header_for task c) task.me old) (changes_of deeds)) under
   -- the output when its last deed was done; then, where the output failed, it took some prefix of the line under way, and else nothing more
   pub so_far : K
   pub rest : WritesAt takes fails so_far written end [] (under_line (setting_of task) under)
-  pub moments : AreHonest view old → AlwaysRecovers view (header_of_settings c) task.me takes (line (setting_of task)) deeds under old new sink so_far
-  pub cause : HasCauseOn view end under (after_inputs (first_node view (header_of_settings c) task.me old) (inputs_of deeds)) old new (counts link) (counts after)
+  pub moments : AreHonest view old → AlwaysRecovers view (header_for task c) task.me takes (line (setting_of task)) deeds under old new sink so_far
+  pub cause : HasCauseOn view end under (after_changes (first_node view (header_for task c) task.me old) (changes_of deeds)) old new (counts link) (counts after)
 
 -- the link could not listen: nothing was done
 pub record WasDeaf {D L K : Type 0} (view : D → DiskView) (story : L → Option (List Call)) (counts : L → LinkCounts) (takes : K → List ℕ → K → Type 0) (c : Settings) (task : Task) (old new : Disks D) (link after : L) (sink written : K) : Type 0 where
   pub goes_on : AllGoOn view old new
-  pub survives : AreHonest view old → Survives view (header_of_settings c) task.me new (first_node view (header_of_settings c) task.me old)
-  pub moments : AreHonest view old → AlwaysRecovers view (header_of_settings c) task.me takes (line (setting_of task)) [] Idle old new sink written
+  pub survives : AreHonest view old → Survives view (header_for task c) task.me new (first_node view (header_for task c) task.me old)
+  pub moments : AreHonest view old → AlwaysRecovers view (header_for task c) task.me takes (line (setting_of task)) [] Idle old new sink written
   pub calls : story after ≡ story link
   pub counted : CountsFailure (counts link) (counts after)
 
@@ -201,7 +216,7 @@ pub record OnRun : Type 1 where
 
 abbrev pub at_run : {D L K : Type 0} → (D → DiskView) → (L → Option (List Call)) → (L → LinkCounts) → (K → List ℕ → K → Type 0) → (K → List ℕ → K → Type 0) → Settings → Task → Disks D → Disks D → L → L → K → K → OnRun
 at_run view story counts takes fails c task old new link after sink written = record {
-  refused = λ error. RefusesNode view (length c.addresses) old new error × LoadsSafely view (header_of_settings c) task.me old new × (after ≡ link);
+  refused = λ error. RefusesNode view (length c.addresses) old new error × LoadsSafely view (header_for task c) task.me old new × (after ≡ link);
   did = λ deeds. DidOn view story counts takes c task deeds old new link after sink written;
   stopped = λ end deeds under. StoppedOn view story counts takes fails c task end deeds under old new link after sink written;
   deaf = WasDeaf view story counts takes c task old new link after sink written;

@@ -72,7 +72,7 @@ abbrev pub after_turn : Setting → Observation → Machine → Machine
 after_turn s t m = record {
   running = after_all (turn_deeds s t m) m.running;
   pace = pace_after (due_at t m) m.pace t m.running.node;
-  probing = probing_by s.me (config_at_look s t m) t.reread (probing_after (due_at t m) t m.running.dials m.probing);
+  probing = probing_by s (config_at_look s t m) t.reread (probing_after (due_at t m) t m.running.dials m.probing);
   reading = last_read t.look m.reading;
 }
 

@@ -1,22 +1,20 @@
 //! A node after its load, with no message to send and no request under way.
 
-ghost use Rattle.std.specs.Prelude.{◌≡◌, ◌≤◌, [], IfErr, IfOk, IfSome, length};
-ghost use Rattle.std.specs.List.{AllByRecursion};
+ghost use Rattle.std.specs.Prelude.{◌≡◌, ◌≤◌, IfErr, IfOk, length};
 ghost use Rattle.oc_base.specs.Lawful.{IsNode};
-ghost use Rattle.oc_base.specs.declared.limits.TheConstants.{MAX_AREA, MAX_NODES};
+ghost use Rattle.oc_base.specs.declared.limits.TheConstants.{MAX_NODES};
 ghost use Rattle.oc_config.specs.Reading.{IsConfig};
-ghost use Rattle.oc_keep.specs.Files.{disks_in};
-ghost use Rattle.oc_keep.specs.Promises.{LoadsSafely, RefusesNode};
-ghost use Rattle.oc_deeds.specs.Lawful.{IsMadeFor};
+ghost use Rattle.oc_deeds.specs.Records.{is_record};
 ghost use Rattle.oc_service.specs.Loading.{IsEquipped, IsLoaded, IsUnloaded};
-ghost use Rattle.oc_service.specs.OnSite.{header_of_settings, probing_at_first};
+ghost use Rattle.oc_service.specs.OnSite.{header_by};
 
 use crate::probing::first_probing;
 use crate::running::Task;
 use crate::site::Site;
-use oc_base::{Memory, NodeId};
+use oc_base::{MAX_NODES as NODES_LIMIT, Memory};
 use oc_config::Config;
-use oc_deeds::{Dials, Outbox, Pace, Works, most_interval};
+use oc_deeds::rereading::areas_for;
+use oc_deeds::{Dials, Log, Outbox, Pace, Works, most_interval};
 use oc_http::HeadReader;
 use oc_io::{Disk, Sink};
 use oc_keep::{KeepLoad, Kept, Seat};
@@ -47,7 +45,7 @@ pub(crate) fn load<D: Disk, L: Link, K: Sink>(
     requires config { IsConfig config }
     requires me { IsNode (length config.addresses) task.me }
     ensures loaded { IfOk result (IsLoaded D.view config task site) }
-    ensures unloaded { IfErr result (λ refused. IsUnloaded D.view config task.me site refused.0 refused.1) }
+    ensures unloaded { IfErr result (λ refused. IsUnloaded D.view config task site refused.0 refused.1) }
 {
     let Equipment {
         areas,
@@ -55,7 +53,7 @@ pub(crate) fn load<D: Disk, L: Link, K: Sink>(
         tally,
         heads,
         probing,
-    } = match equip(alloc, &config, task.me, task.probes) {
+    } = match equip(alloc, &config, &task) {
         Ok(equipment) => equipment,
         Err(Memory) => return Err((site, KeepLoad::Memory)),
     };
@@ -68,18 +66,19 @@ pub(crate) fn load<D: Disk, L: Link, K: Sink>(
         text,
         about,
     } = task;
+    let ids = nodes_of(&config);
     let seat = Seat {
         id: me,
         header: Header {
             sizes: Sizes {
-                nodes: nodes_of(&config),
+                nodes: room_for(&config, log),
                 chain: config.chain,
                 chunk: config.chunk(),
             },
             areas,
         },
     };
-    match Kept::load(alloc, files, seat) {
+    match Kept::load_among(alloc, files, seat, ids) {
         Ok(kept) => Ok(Turns {
             server: Server {
                 alloc,
@@ -105,18 +104,34 @@ pub(crate) fn load<D: Disk, L: Link, K: Sink>(
 
 /// The state of the node besides its files: the areas of all nodes, no messages to send, nothing
 /// counted, and the state of its probing.
-fn equip(alloc: Global, config: &Config, me: NodeId, probes: bool) -> Result<Equipment, Memory>
+fn equip(alloc: Global, config: &Config, task: &Task) -> Result<Equipment, Memory>
     requires config { IsConfig config.now }
-    requires me { IsNode (length config.now.addresses) me }
-    ensures { IfOk result (λ equipment. IsEquipped config.now probes me equipment.areas.items equipment.outbox equipment.tally equipment.probing) }
+    requires me { IsNode (length config.now.addresses) task.now.me }
+    ensures { IfOk result (λ equipment. IsEquipped config.now (is_record task.now.log) task.now.probes task.now.me equipment.areas.items equipment.outbox equipment.tally equipment.probing) }
 {
+    let nodes = room_for(config, task.log);
     Ok(Equipment {
-        areas: copy_areas(alloc, &config.areas)?,
+        areas: areas_for(alloc, nodes, config)?,
         outbox: Outbox::new(alloc)?,
-        tally: Tally::new(alloc, nodes_of(config))?,
+        tally: Tally::new(alloc, nodes)?,
         heads: HeadReader::new(alloc)?,
-        probing: first_probing(alloc, me, &config.addresses, probes)?,
+        probing: first_probing(alloc, task.me, nodes, &config.addresses, task.probes)?,
     })
+}
+
+/// The number of nodes that a node is loaded for: those of its configuration, if it writes a record, and else all that there
+/// can be, so that more may come while it runs.
+fn room_for(config: &Config, log: Log) -> u32
+    requires { length config.now.addresses ≤ MAX_NODES }
+    ensures room { result ≡ (header_by (is_record log) config.now).nodes }
+    ensures few { result ≤ MAX_NODES }
+    ensures within { length config.now.addresses ≤ result }
+{
+    if log.is_record() {
+        nodes_of(config)
+    } else {
+        NODES_LIMIT
+    }
 }
 
 /// The number of nodes in a configuration.
@@ -125,16 +140,4 @@ fn nodes_of(config: &Config) -> u32
     ensures { result ≡ length config.now.addresses }
 {
     config.addresses.len() as u32
-}
-
-/// The areas of the nodes, copied one by one: each that is read is within its range.
-fn copy_areas(alloc: Global, areas: &[u8]) -> Result<Vec<u8>, Memory>
-    ensures same { IfOk result (λ copy. copy.items ≡ areas.now) }
-    ensures bytes { IfOk result (λ copy. AllByRecursion (λ a. a ≤ MAX_AREA) copy.items) }
-{
-    let mut copy = Vec::with_capacity(alloc, areas.len())?;
-    for area in areas {
-        copy.push(*area)?;
-    }
-    Ok(copy)
 }

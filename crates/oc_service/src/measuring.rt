@@ -19,7 +19,6 @@ use oc_updown::Measure;
 pub(crate) fn begin<D: Disk, L: Link, K: Sink>(server: &mut Server<D, L, K>) -> Result<(), TurnEnd>
     requires serving { IsServing server.old }
     requires lawful { All (IsMeasure server.old.kept.node.control.nodes) server.old.config.measures }
-    requires areas { server.old.config.areas ≡ server.old.kept.node.control.areas }
     ensures did { OnOk result (Did D.view K.takes K.faults L.story L.counts
         (begins_on (setting server.old) server.old.config.measures server.old.kept.node.control server.old.kept.content.shelves) server.old server.new) }
     ensures stops { IfErr result (λ end. Stops D.view K.takes K.fails K.faults L.story L.counts end

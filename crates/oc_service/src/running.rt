@@ -114,7 +114,6 @@ pub fn run_node<D: Disk, L: Link, K: Sink>(
 fn run<D: Disk, L: Link, K: Sink>(turns: &mut Turns<D, L, K>, most: u64) -> TurnEnd
     requires ready { IsReady turns.old }
     requires measures { All (IsMeasure turns.old.server.kept.node.control.nodes) turns.old.server.config.measures }
-    requires areas { turns.old.server.config.areas ≡ turns.old.server.kept.node.control.areas }
     ensures { RunEnds D.view K.takes K.fails K.faults L.story L.counts most result turns.old turns.new }
 {
     turns_are_in_order::<D, L, K>();

@@ -14,6 +14,9 @@ returns c = record {
     other = refl;
     cut = refl;
     owed_then = refl;
+    one_after_another = (refl, ((refl, λ chunked. absurd (false≢true chunked)), ((refl, λ chunked. absurd (false≢true chunked)), (tt, (record { phase = refl; works = inl refl }, tt)))));
+    all_given = refl;
+    all_owed = refl;
     permission = refl;
   };
 }

@@ -1,7 +1,7 @@
 use Rattle.std.proofs.Common.{None, Some, ap, sym, ◌∙◌}
 use Rattle.std.proofs.lemmas.Result.{err_from_is_err_and}
 use Rattle.oc_model.specs.Node.{Control}
-use Rattle.oc_deeds.specs.Asks.{answers_or_waits, takes_on}
+use Rattle.oc_deeds.specs.Asks.{selects, takes_on}
 use Rattle.oc_deeds.specs.Deeds.{Refuses}
 use Rattle.oc_deeds.proofs.Responding.{condition_hurries, condition_part, condition_told}
 use Rattle.oc_deeds.proofs.Results.{done_then, err_then, ok_then}
@@ -31,16 +31,16 @@ pub returns-in-None-clause-did : goal.returns-in-None-clause-did
 returns-in-None-clause-did g c =
     let s = c.args.doer.now in
     let request = c.args.request in
-    done_then c.answers_or_waits.result (λ does. c.parts_go_on.ensures.as_same (answers_or_waits c.args.connection request c.args.now) (takes_on c.args.connection request c.args.now) s c.answers_or_waits.new.doer (λ honest. condition_part c.args.connection c.args.now request None (g.W.Doer.setting s) (g.W.Doer.running s) (condition_told request None c.unmet.result c.id.result c.shelf.result.now (g.W.Doer.running s).node c.unmet.ensures (c.id.ensures ∙ ap (λ (n : Control). n.me) c.node.ensures) (c.shelf.ensures honest) c.in-None.is)) does) c.answers_or_waits.ensures.did
+    done_then c.selects.result (λ does. c.parts_go_on.ensures.as_same (selects c.args.connection request c.args.now) (takes_on c.args.connection request c.args.now) s c.selects.new.doer (λ honest. condition_part c.args.connection c.args.now request None (g.W.Doer.setting s) (g.W.Doer.running s) (condition_told request None c.unmet.result c.id.result c.shelf.result.now (g.W.Doer.running s).node c.unmet.ensures (c.id.ensures ∙ ap (λ (n : Control). n.me) c.node.ensures) (c.shelf.ensures honest) c.in-None.is)) does) c.selects.ensures.did
 
 pub returns-in-None-clause-hurries : goal.returns-in-None-clause-hurries
 returns-in-None-clause-hurries g c =
     let s = c.args.doer.now in
     let request = c.args.request in
-    ok_then c.answers_or_waits.result (λ b is honest. is honest ∙ sym (condition_hurries c.args.request None (g.W.Doer.running c.args.doer.now).node (condition_told request None c.unmet.result c.id.result c.shelf.result.now (g.W.Doer.running s).node c.unmet.ensures (c.id.ensures ∙ ap (λ (n : Control). n.me) c.node.ensures) (c.shelf.ensures honest) c.in-None.is))) c.answers_or_waits.ensures.hurries
+    ok_then c.selects.result (λ b is honest. is honest ∙ sym (condition_hurries c.args.request None (g.W.Doer.running c.args.doer.now).node (condition_told request None c.unmet.result c.id.result c.shelf.result.now (g.W.Doer.running s).node c.unmet.ensures (c.id.ensures ∙ ap (λ (n : Control). n.me) c.node.ensures) (c.shelf.ensures honest) c.in-None.is))) c.selects.ensures.hurries
 
 pub returns-in-None-clause-breaks : goal.returns-in-None-clause-breaks
 returns-in-None-clause-breaks g c =
     let s = c.args.doer.now in
     let request = c.args.request in
-    err_then c.answers_or_waits.result (λ end stops. c.parts_stop.ensures.as_same end (answers_or_waits c.args.connection request c.args.now) (takes_on c.args.connection request c.args.now) s c.answers_or_waits.new.doer (λ honest. condition_part c.args.connection c.args.now request None (g.W.Doer.setting s) (g.W.Doer.running s) (condition_told request None c.unmet.result c.id.result c.shelf.result.now (g.W.Doer.running s).node c.unmet.ensures (c.id.ensures ∙ ap (λ (n : Control). n.me) c.node.ensures) (c.shelf.ensures honest) c.in-None.is)) stops) c.answers_or_waits.ensures.breaks
+    err_then c.selects.result (λ end stops. c.parts_stop.ensures.as_same end (selects c.args.connection request c.args.now) (takes_on c.args.connection request c.args.now) s c.selects.new.doer (λ honest. condition_part c.args.connection c.args.now request None (g.W.Doer.setting s) (g.W.Doer.running s) (condition_told request None c.unmet.result c.id.result c.shelf.result.now (g.W.Doer.running s).node c.unmet.ensures (c.id.ensures ∙ ap (λ (n : Control). n.me) c.node.ensures) (c.shelf.ensures honest) c.in-None.is)) stops) c.selects.ensures.breaks

@@ -18,7 +18,7 @@ returns-in-Nothing-clause-did g c =
 pub returns-in-Nothing-clause-probing : goal.returns-in-Nothing-clause-probing
 returns-in-Nothing-clause-probing g c =
     let s = c.args.doer.now in
-    sym (ap (λ (r : Reread). probing_by (g.W.Doer.setting s).me (g.W.Doer.running s).config r c.args.probing.now) c.in-Nothing.is)
+    sym (ap (λ (r : Reread). probing_by (g.W.Doer.setting s) (g.W.Doer.running s).config r c.args.probing.now) c.in-Nothing.is)
 
 pub returns-in-Unfit-clause-did : goal.returns-in-Unfit-clause-did
 returns-in-Unfit-clause-did g c =
@@ -28,7 +28,7 @@ returns-in-Unfit-clause-did g c =
 pub returns-in-Unfit-clause-probing : goal.returns-in-Unfit-clause-probing
 returns-in-Unfit-clause-probing g c =
     let s = c.args.doer.now in
-    done_then c.keeps.result (λ does. sym (ap (λ (r : Reread). probing_by (g.W.Doer.setting s).me (g.W.Doer.running s).config r c.args.probing.now) c.in-Unfit.is)) c.keeps.ensures.did
+    done_then c.keeps.result (λ does. sym (ap (λ (r : Reread). probing_by (g.W.Doer.setting s) (g.W.Doer.running s).config r c.args.probing.now) c.in-Unfit.is)) c.keeps.ensures.did
 
 pub returns-in-Unfit-clause-made : goal.returns-in-Unfit-clause-made
 returns-in-Unfit-clause-made g c = done_then c.keeps.result (λ does. c.requires.probing) c.keeps.ensures.did
@@ -46,7 +46,7 @@ returns-in-Config-clause-did g c =
 pub returns-in-Config-clause-probing : goal.returns-in-Config-clause-probing
 returns-in-Config-clause-probing g c =
     let s = c.args.doer.now in
-    done_then c.goes_by_if.result (λ is. is ∙ sym (ap (λ (r : Reread). probing_by (g.W.Doer.setting s).me (g.W.Doer.running s).config r c.args.probing.now) c.in-Config.is)) c.goes_by_if.ensures.probing
+    done_then c.goes_by_if.result (λ is. is ∙ sym (ap (λ (r : Reread). probing_by (g.W.Doer.setting s) (g.W.Doer.running s).config r c.args.probing.now) c.in-Config.is)) c.goes_by_if.ensures.probing
 
 pub returns-in-Config-clause-breaks : goal.returns-in-Config-clause-breaks
 returns-in-Config-clause-breaks g c =

@@ -28,4 +28,4 @@ returns-in_ok-probing-clause-made c =
     sym (ap (λ (s : Settings). s.addresses) c.config.view_is) ∙ ap (map (option_map (string_bytes {Z = Global}))) (sym c.deref.ensures.value) in
     let is : c.in_ok-probing.field-0 ≡ rotation_of (peers_of me config.addresses) =
     c.in_ok-probing.ensures ∙ ap rotation_of (peers_read (string_bytes {Z = Global}) me places config.addresses shown) in
-    made_rerouted me config.addresses c.in-Some.probing c.in_ok-probing.field-0 is (subst (λ (o : Option Probing). IfSome o (IsMadeFor (length config.addresses))) c.in-Some.is c.requires.probing)
+    λ nodes within made. made_rerouted me nodes config.addresses c.in-Some.probing c.in_ok-probing.field-0 within is (subst (λ (o : Option Probing). IfSome o (IsMadeFor nodes)) c.in-Some.is made)

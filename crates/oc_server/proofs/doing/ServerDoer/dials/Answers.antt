@@ -43,4 +43,4 @@ pub request_to-requires-clause-host : goal.request_to-requires-clause-host
 request_to-requires-clause-host g c =
     let s = c.args.self.now in
     let nodes = s.kept.node.control.nodes in
-    c.requires.serving.placed.hosts c.in-Some.message.to
+    c.requires.serving.set.placed.hosts c.in-Some.message.to

@@ -8,4 +8,10 @@ pub returns-clause-same_me : goal.returns-clause-same_me
 returns-clause-same_me g c = λ s. refl
 
 pub returns-clause-places : goal.returns-clause-places
-returns-clause-places g c = λ s serving. serving.placed.count
+returns-clause-places g c = λ s serving. serving.set.placed.count
+
+pub returns-clause-roomy : goal.returns-clause-roomy
+returns-clause-roomy g c = λ s serving. serving.set.roomy
+
+pub returns-clause-areas : goal.returns-clause-areas
+returns-clause-areas g c = λ s serving. serving.set.areas

@@ -1,4 +1,5 @@
 use Rattle.std.proofs.Common.{List, ℕ, Option, ap, refl, rules, subst, ◌∙◌}
+use Rattle.std.specs.Prelude.{is_some, unwrap_or}
 use Rattle.std.proofs.lemmas.Result.{err_from_is_err_and}
 use Rattle.oc_link.specs.Told.{AddsAll}
 use Rattle.oc_routes.specs.Refusals.{why_text}
@@ -19,7 +20,7 @@ returns-clause-did g c =
     (did_line g.D.Disk.view g.K.Sink.takes g.K.Sink.fails g.K.Sink.faults g.L.Link.story g.L.Link.counts (Refuses c.args.connection c.args.count c.args.refusal) s c.write_line.new.sink s.works c.refuse.new.link c.count_refusal.new.tally refl refl c.requires.is_open c.refuse.ensures.counts
     (subst (λ (t : List ℕ). g.K.Sink.takes s.sink t c.write_line.new.sink) (c.deref.ensures.value ∙ put_first c.new-line.result.items (note_line (why_text c.args.refusal.why)) _ (search rules) c.in_ok-put_refusal_line.ensures) c.in_ok-write_line.ensures.wrote) c.write_line.ensures.count (λ all. all)
     (ap (λ (t : TallyView). record (running s) { tally = t }) (c.count_refusal.ensures ∙ ap (λ (text : Option (List ℕ)). with_refused_by (message_fault c.args.refusal.why) c.args.refusal.asker text s.tally) c.in_ok-reply.ensures))
-    (subst (λ (reply : Option (List ℕ)). AddsAll (refuses c.args.connection c.args.count reply) (g.L.Link.story s.link) (g.L.Link.story c.refuse.new.link)) c.in_ok-reply.ensures c.refuse.ensures.calls))
+    (subst (λ (reply : Option (List ℕ)). AddsAll (refuses c.args.connection (unwrap_or c.args.refusal.kept c.args.count) (is_some c.args.refusal.kept) reply) (g.L.Link.story s.link) (g.L.Link.story c.refuse.new.link)) c.in_ok-reply.ensures c.refuse.ensures.calls))
 
 pub returns-in_err-reply-clause-breaks : goal.returns-in_err-reply-clause-breaks
 returns-in_err-reply-clause-breaks g c =

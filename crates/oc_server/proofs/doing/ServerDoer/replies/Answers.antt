@@ -21,6 +21,9 @@ use Rattle.oc_routes.specs.declared.response.Response.{Response}
 use Rattle.oc_deeds.specs.declared.ends.TurnEnd.TheVariants as ends
 use Rattle.oc_server.proofs.doing.ServerDoer.replies.Goals as goal
 
+pub response_to-requires-clause-places : goal.response_to-requires-clause-places
+response_to-requires-clause-places g c = c.requires.serving.set.placed.count
+
 pub returns-clause-did : goal.returns-clause-did
 returns-clause-did g c =
     let s = c.args.self.now in

@@ -3,6 +3,9 @@ use Rattle.std.proofs.lemmas.Result.{err_from_is_err_and}
 use Rattle.oc_server.proofs.Steps.{memory_breaks}
 use Rattle.oc_server.proofs.server.Server.understands.Goals as goal
 
+pub meaning_of-requires-clause-set : goal.meaning_of-requires-clause-set
+meaning_of-requires-clause-set g c = c.requires.serving.set
+
 pub returns-in_err-meaning_of-clause-breaks : goal.returns-in_err-meaning_of-clause-breaks
 returns-in_err-meaning_of-clause-breaks g c =
     let p = err_from_is_err_and c.from_residual.result c.from_residual.ensures.1 in

@@ -1,6 +1,6 @@
 use Rattle.std.proofs.Common.{◌∷◌, [], Bool, Option, IfSome, List, ℕ, ap, refl, sym, subst, ◌∙◌}
 use Rattle.std.proofs.lemmas.Result.{err_from_is_err_and}
-use Rattle.oc_keep.specs.KeptView.{header_of}
+use Rattle.oc_keep.specs.KeptView.{sizes_of}
 use Rattle.oc_model.specs.Node.{Header}
 use Rattle.oc_deeds.specs.Choices.{wait_for}
 use Rattle.oc_deeds.specs.Turns.{deals}
@@ -46,7 +46,7 @@ deals-requires-clause-serving g c =
 pub deals-requires-clause-probing : goal.deals-requires-clause-probing
 deals-requires-clause-probing g c =
     let t = c.args.self.now in
-    subst (λ (h : Header). IfSome t.probing (IsMadeFor h.nodes)) (sym (c.millis-now.ensures.same.header ∙ ap (λ s. header_of s.kept.node.control) c.understands.ensures.same ∙ c.in_ok-happened.ensures.did.1.same.header)) c.requires.probing
+    subst (λ (h : Header). IfSome t.probing (IsMadeFor h.nodes)) (sym (c.millis-now.ensures.same.header ∙ ap (λ s. sizes_of s.kept.node.control) c.understands.ensures.same ∙ c.in_ok-happened.ensures.did.1.same.header)) c.requires.probing
 
 pub deals-requires-clause-came : goal.deals-requires-clause-came
 deals-requires-clause-came g c =
@@ -54,7 +54,7 @@ deals-requires-clause-came g c =
     let came = c.in_ok-came.came in
     let read = c.millis-now.ensures in
     let heads = c.understands.ensures.same in
-    subst (λ (h : Header). IsLawfulCame h.nodes c.millis-now.new.self.kept.node.control.me came) (sym (read.same.header ∙ ap (λ s. header_of s.kept.node.control) heads))
+    subst (λ (h : Header). IsLawfulCame h.nodes c.millis-now.new.self.kept.node.control.me came) (sym (read.same.header ∙ ap (λ s. sizes_of s.kept.node.control) heads))
     (subst (λ (me : ℕ). IsLawfulCame b.kept.node.control.nodes me came) (sym (read.same.me ∙ ap (λ s. s.kept.node.control.me) heads)) c.in_ok-came.ensures.lawful)
 
 pub returns-clause-ready : goal.returns-clause-ready
@@ -71,7 +71,7 @@ returns-clause-ready g c =
     let part = deals t.pace t.probing c.in_ok-came.came c.millis-now.result dealt.0 dealt.1 dealt.2 in
     ready_then t (record { server = c.deals.new.doer; pace = c.deals.new.pace; probing = c.deals.new.probing; reading = t.reading }) c.requires
     (does_serve g.D.Disk.view g.K.Sink.takes g.K.Sink.fails g.K.Sink.faults g.L.Link.story g.L.Link.counts part d c.deals.new.doer dealt.4 serving)
-    (dealt.4.did.same.header ∙ read.same.header ∙ ap (λ s. header_of s.kept.node.control) heads ∙ did.1.same.header) c.in_ok-came.came c.millis-now.result d.dials c.deals.ensures.probing
+    (dealt.4.did.same.header ∙ read.same.header ∙ ap (λ s. sizes_of s.kept.node.control) heads ∙ did.1.same.header) c.in_ok-came.came c.millis-now.result d.dials c.deals.ensures.probing
 
 pub returns-clause-taken : goal.returns-clause-taken
 returns-clause-taken g c =

@@ -4,7 +4,8 @@ ghost use Rattle.oc_system.specs.declared.connection.ConnectionStage.TheVariants
 use crate::incoming::Incoming;
 use crate::limits::{
     BODY_MILLIS, BODY_PAUSE_MILLIS, HEAD_MILLIS, LARGE_BYTES, LARGE_BYTES_A_MILLI, LINGER_BYTES,
-    LINGER_MILLIS, MOST_MESSAGE, MOST_READS, MOST_UNSENT, REPLY_PAUSE_MILLIS, SHORT_REPLY,
+    LINGER_MILLIS, MOST_AHEAD, MOST_MESSAGE, MOST_READS, MOST_UNSENT, REPLY_PAUSE_MILLIS,
+    SHORT_REPLY,
 };
 use crate::socket::{Moved, read_some, write_some};
 use crate::times::Deadline;
@@ -19,7 +20,8 @@ use std::net::Shutdown;
 /// The stage of a connection.
 #[derive(Clone, Copy, PartialEq, Eq)]
 pub(crate) enum ConnectionStage {
-    /// The connection waits for its next request; the last reply has gone out whole.
+    /// The connection waits for its next request; the reply before it is complete, and may still go
+    /// out.
     Awaiting,
     /// The request was taken, and the reply is not complete.
     Answering,
@@ -49,9 +51,11 @@ pub(crate) enum Fate {
 pub(crate) enum ClaimKind {
     /// A connection whose remaining bytes are read and dropped.
     ReadOut,
+    /// A connection whose replies have gone out, and of whose next request no byte has come.
+    Kept,
     /// A connection whose request is not complete.
     Request,
-    /// A connection whose reply is under way.
+    /// A connection whose replies have not gone out.
     Content,
     /// A connection whose request was taken, and that was sent nothing so far.
     Follower,
@@ -87,8 +91,10 @@ pub(crate) struct Connection {
     /// Whether the reply has begun, and when bytes were last given.
     has_begun: bool,
     fed_at: u64,
-    /// Whether the loss of the last reply is to be reported.
-    is_watched: bool,
+    /// Whether the loss of a complete reply that has not gone out whole is to be reported.
+    pub(crate) is_watched: bool,
+    /// Whether a write failed, so that no reply goes out any more.
+    is_cut: bool,
     /// Whether the request was all that came, and the number of bytes of the replies.
     is_all: bool,
     went: usize,
@@ -122,6 +128,7 @@ impl Connection {
             has_begun: false,
             fed_at: now,
             is_watched: false,
+            is_cut: false,
             is_all: false,
             went: 0,
             dropped: 0,
@@ -176,7 +183,7 @@ impl Connection {
         let before = self.unsent.len();
         match self.unsent.send(&mut self.stream, tools) {
             Moved::Nothing => self.is_writable = false,
-            Moved::Failed | Moved::End => self.incoming.has_failed = true,
+            Moved::Failed | Moved::End => self.cut(),
             Moved::Bytes(_) => {}
         }
         if self.unsent.len() < before {
@@ -187,12 +194,18 @@ impl Connection {
         }
     }
 
+    /// Notes that nothing can be sent any more.
+    fn cut(&mut self) {
+        self.incoming.has_failed = true;
+        self.is_cut = true;
+    }
+
     /// Notes that all given bytes have gone out. If the next request is awaited, its time begins
     /// now.
     fn note_sent(&mut self, now: u64) {
         self.deadline = Deadline::never();
+        self.is_watched = false;
         if self.stage == ConnectionStage::Awaiting && !self.is_fed {
-            self.is_watched = false;
             self.begin_head(now);
         } else if self.stage == ConnectionStage::Awaiting {
             self.begin_body(now);
@@ -212,10 +225,10 @@ impl Connection {
         self.deadline = Deadline::after(now, BODY_MILLIS).with_pause(now, BODY_PAUSE_MILLIS);
     }
 
-    /// Reads the bytes that came of the next request. While the last reply goes out, they wait in
-    /// the socket.
+    /// Reads the bytes that came of the next request. While too much of the replies has not gone
+    /// out, they wait in the socket.
     fn receive(&mut self, tools: &mut Tools, now: u64, most: usize) {
-        if !self.is_readable || !self.unsent.is_empty() || self.incoming.is_over() {
+        if !self.is_readable || self.is_behind() || self.incoming.is_over() {
             return;
         }
         let had_head = self.incoming.outline.is_some();
@@ -223,16 +236,25 @@ impl Connection {
             .incoming
             .read(&mut self.stream, tools, most, self.is_fed);
         self.is_readable = !intake.is_drained;
-        if intake.has_come {
-            self.deadline.progress(now);
-        }
         // Nothing more comes after an end, so an end counts as new, too.
         if intake.has_come || self.incoming.is_over() {
             self.is_told = false;
         }
+        // As long as a reply goes out, the time limit is the reply's.
+        if !self.unsent.is_empty() {
+            return;
+        }
+        if intake.has_come {
+            self.deadline.progress(now);
+        }
         if !had_head && self.incoming.outline.is_some() {
             self.begin_body(now);
         }
+    }
+
+    /// Whether so much of the replies has not gone out that the next request has to wait.
+    fn is_behind(&self) -> bool {
+        self.unsent.len() >= MOST_AHEAD
     }
 
     /// Whether the request has as many bytes as it may have without one of the places for large
@@ -287,7 +309,7 @@ impl Connection {
         }
         let length = self.unsent.len().saturating_add(rest.len());
         if length > MOST_UNSENT || !self.unsent.put(tools, rest) {
-            self.incoming.has_failed = true;
+            self.cut();
         }
     }
 
@@ -304,7 +326,7 @@ impl Connection {
                 }
                 Moved::Nothing => self.is_writable = false,
                 Moved::Failed | Moved::End => {
-                    self.incoming.has_failed = true;
+                    self.cut();
                     return &[];
                 }
             }
@@ -330,6 +352,7 @@ impl Connection {
         }
         self.stage = ConnectionStage::Answering;
         self.is_told = false;
+        self.is_late = false;
         self.is_fed = false;
         self.has_begun = false;
         self.since = now;
@@ -342,7 +365,7 @@ impl Connection {
     /// Notes that the reply is complete.
     pub(crate) fn finish(&mut self, ending: Ending, now: u64) {
         self.is_fed = false;
-        self.is_watched = ending.watched;
+        self.is_watched = self.is_watched || ending.watched;
         if ending.keeps {
             self.number = self.number.saturating_add(1);
             self.stage = ConnectionStage::Awaiting;
@@ -355,15 +378,30 @@ impl Connection {
         }
     }
 
+    /// Ends a connection without a reply to its last request. The replies before go out whole;
+    /// without any the connection is over at once.
+    pub(crate) fn leave(&mut self, now: u64) {
+        if self.number <= 1 || self.incoming.has_failed {
+            self.stage = ConnectionStage::Over;
+            return;
+        }
+        self.is_fed = false;
+        self.is_all = false;
+        self.is_late = false;
+        self.stage = ConnectionStage::Finishing;
+        self.end(now);
+    }
+
     /// Once all bytes went out, tells the peer that nothing more comes, and gives it time to end.
     /// Closing a socket while bytes still come makes the system send a reset, which may overtake
-    /// the reply. After a whole request with nothing after it and a short reply, a close does no
-    /// harm.
+    /// the reply. After the peer's end, or after a whole request with nothing after it and a short
+    /// reply, a close does no harm.
     fn end(&mut self, now: u64) {
         if !self.unsent.is_empty() || self.incoming.has_failed {
             return;
         }
-        if self.is_all && self.went <= SHORT_REPLY {
+        let is_quiet = self.is_all && self.went <= SHORT_REPLY;
+        if is_quiet || self.incoming.has_ended {
             self.stage = ConnectionStage::Over;
             return;
         }
@@ -439,17 +477,25 @@ impl Connection {
     }
 
     /// The next action while the next request is awaited. A connection that ends, fails or runs out
-    /// of time without a byte of a request is dropped without a report; so is one that fails before
-    /// its last reply has gone out, if nobody asked for a report. If the permission to send a body
-    /// did not go out, the request has failed.
+    /// of time without a byte of a request is dropped without a report once its replies have gone
+    /// out; so is one that fails before that, if nobody asked for a report. If the permission to
+    /// send a body did not go out, the request has failed.
     fn fate_of_request(&self) -> Fate {
         let has_failed = self.incoming.has_failed;
-        if !self.unsent.is_empty() && !(has_failed && self.is_fed) {
-            return if has_failed { Fate::Over } else { Fate::Stays };
+        let is_sent = self.unsent.is_empty();
+        if has_failed && !self.is_fed && (self.is_cut || !is_sent) {
+            return Fate::Over;
+        }
+        if self.is_behind() && !has_failed {
+            return Fate::Stays;
         }
         let is_over = self.incoming.is_over() || self.is_late;
         if self.incoming.len() == 0 && is_over {
-            return Fate::Over;
+            return if is_sent || has_failed {
+                Fate::Over
+            } else {
+                Fate::Stays
+            };
         }
         let is_full = self.incoming.len() >= MOST_MESSAGE;
         if self.is_told || !(is_over || is_full || self.incoming.is_ripe(self.is_fed)) {
@@ -490,7 +536,7 @@ impl Connection {
     pub(crate) fn is_busy(&self, most: usize) -> bool {
         let is_read = match self.stage {
             ConnectionStage::Awaiting => {
-                self.unsent.is_empty()
+                !self.is_behind()
                     && !self.incoming.is_over()
                     && self.incoming.len() < most
                     && !self.incoming.is_ripe(self.is_fed)
@@ -508,7 +554,7 @@ impl Connection {
             self.stage,
             ConnectionStage::Answering | ConnectionStage::Finishing
         ) {
-            self.incoming.has_failed = true;
+            self.cut();
         }
     }
 
@@ -543,12 +589,45 @@ impl Connection {
                 if self.incoming.is_ripe(self.is_fed) || (self.is_readable && !self.is_held()) {
                     return None;
                 }
-                (ClaimKind::Request, self.since)
+                (self.kind_of_waiting(), self.since)
             }
             _ if self.has_begun => (ClaimKind::Content, self.fed_at),
             _ => (ClaimKind::Follower, self.since),
         };
         Some(Claim { kind, since })
+    }
+
+    /// The kind of a connection that waits for its request.
+    fn kind_of_waiting(&self) -> ClaimKind {
+        if self.is_kept() {
+            ClaimKind::Kept
+        } else {
+            ClaimKind::Request
+        }
+    }
+
+    /// Whether all replies have gone out, at least one, and no byte of the next request was read.
+    fn is_kept(&self) -> bool {
+        self.stage == ConnectionStage::Awaiting
+            && self.number > 1
+            && self.unsent.is_empty()
+            && self.incoming.len() == 0
+    }
+
+    /// Whether a connection that may be asked to give way has something to be looked at first: a
+    /// byte of the next request came that was not read, or the end.
+    pub(crate) fn has_news(&mut self, tools: &mut Tools) -> bool {
+        if !self.is_kept() {
+            return false;
+        }
+        let intake = self.incoming.read(&mut self.stream, tools, 1, false);
+        if !intake.has_come {
+            return false;
+        }
+        // A byte was read; the rest of the request is still in the socket.
+        self.is_readable = true;
+        self.is_told = false;
+        true
     }
 
     /// Whether the request was reported, with nothing more to come, and was not taken.

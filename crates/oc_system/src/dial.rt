@@ -1,9 +1,8 @@
 use crate::limits::{BEGIN_MILLIS, CONNECT_MILLIS, DIAL_MILLIS, DIAL_PAUSE_MILLIS, MOST_READS};
 use crate::reply::Reply;
-use crate::socket::Moved;
+use crate::socket::{Moved, write_some};
 use crate::times::Deadline;
 use crate::tools::Tools;
-use crate::unsent::Unsent;
 use mio::net::TcpStream;
 use oc_link::{Coming, DialId};
 use std::io::ErrorKind;
@@ -26,7 +25,11 @@ pub(crate) enum DialStage {
     Over,
 }
 
-/// An outgoing connection for one request. No call on it blocks.
+/// An outgoing request, on a connection of its own or on one that was kept. No call on it blocks.
+///
+/// If a kept connection ends or fails before the first byte of the reply, the peer may have given
+/// it up before the request came, and the request is made once more on a new one (RFC 9112, section
+/// 9.3.1).
 #[derive(Drop)]
 pub(crate) struct Dial {
     pub(crate) id: DialId,
@@ -35,7 +38,12 @@ pub(crate) struct Dial {
     /// The addresses to try, and the number of those tried.
     addresses: Vec<SocketAddr>,
     tried: usize,
-    unsent: Unsent,
+    /// Whether the connection was kept from an earlier dial.
+    is_reused: bool,
+    request: Vec<u8>,
+    /// The number of bytes of the request that went out, and whether sending them failed.
+    sent: usize,
+    is_cut: bool,
     reply: Reply,
     /// The end of the reply, once the stage is `Over`.
     coming: Coming,
@@ -55,8 +63,8 @@ impl Dial {
         bytes: &[u8],
         now: u64,
     ) -> Dial {
-        let mut unsent = Unsent::new(tools.alloc);
-        let is_kept = unsent.put(tools, bytes);
+        let mut request = Vec::new(tools.alloc);
+        let is_kept = request.extend_from_slice(bytes).is_ok();
         Dial {
             id,
             stream: None,
@@ -67,7 +75,10 @@ impl Dial {
             },
             addresses,
             tried: 0,
-            unsent,
+            is_reused: false,
+            request,
+            sent: 0,
+            is_cut: false,
             reply: Reply::new(tools.alloc),
             coming: Coming::Failed,
             begun: now,
@@ -87,6 +98,27 @@ impl Dial {
         self.is_writable = false;
     }
 
+    /// Goes on with a kept connection to the address of this index.
+    pub(crate) fn resume(&mut self, stream: TcpStream, index: usize, now: u64) {
+        self.stream = Some(stream);
+        self.tried = index.saturating_add(1);
+        self.is_reused = true;
+        self.begin_request(now);
+        self.is_readable = false;
+        self.is_writable = true;
+    }
+
+    /// Whether the dial may use a kept connection. A GET asks for a probe, whose time tells how
+    /// well the peer is reached: it is comparable only if each probe makes its connection.
+    pub(crate) fn may_resume(&self) -> bool {
+        self.stage == DialStage::Refused && !self.request.starts_with(b"GET ")
+    }
+
+    /// The addresses to try.
+    pub(crate) fn addresses(&self) -> &[SocketAddr] {
+        self.addresses.as_slice()
+    }
+
     /// The next address to try.
     pub(crate) fn next_address(&mut self) -> Option<SocketAddr> {
         let address = self.addresses.get(self.tried).copied()?;
@@ -103,7 +135,31 @@ impl Dial {
     fn end(&mut self, coming: Coming) {
         self.stage = DialStage::Over;
         self.coming = coming;
-        self.stream = None;
+    }
+
+    /// Ends the dial, as its connection ended or failed, or begins it once more.
+    fn lose(&mut self, coming: Coming) {
+        if !self.is_reused || !self.reply.is_empty() {
+            self.end(coming);
+            return;
+        }
+        self.is_reused = false;
+        self.stage = DialStage::Refused;
+        self.tried = 0;
+        self.sent = 0;
+        self.is_cut = false;
+    }
+
+    /// The connection of a dial that is finished, with its address, if it can be used for another
+    /// one.
+    pub(crate) fn kept(&mut self) -> Option<(TcpStream, SocketAddr)> {
+        let stream = self.stream.take()?;
+        let is_asked = self.sent >= self.request.len() && !self.is_cut;
+        if !is_asked || !self.reply.may_keep() {
+            return None;
+        }
+        let address = self.addresses.get(self.tried.checked_sub(1)?).copied()?;
+        Some((stream, address))
     }
 
     /// Makes all progress that is possible now.
@@ -115,7 +171,7 @@ impl Dial {
             self.connect(&mut stream, now);
         }
         if self.stage == DialStage::Asking {
-            self.ask(&mut stream, tools, now);
+            self.ask(&mut stream, now);
         }
         if matches!(
             self.stage,
@@ -123,7 +179,8 @@ impl Dial {
         ) {
             self.hear(&mut stream, tools, now);
         }
-        if !matches!(self.stage, DialStage::Refused | DialStage::Over) {
+        // A connection on which the whole reply came may be kept.
+        if self.stage != DialStage::Refused {
             self.stream = Some(stream);
         }
     }
@@ -147,13 +204,18 @@ impl Dial {
                 // Without this option a request that is written in two pieces may wait for an
                 // acknowledgement.
                 let _set = stream.set_nodelay(true).is_ok();
-                self.stage = DialStage::Asking;
-                let end = self.left(now, BEGIN_MILLIS);
-                self.deadline = Deadline::after(now, end).with_pause(now, DIAL_PAUSE_MILLIS);
+                self.begin_request(now);
             }
             Err(error) if error.kind() == ErrorKind::NotConnected => self.is_writable = false,
             Err(_) => self.stage = DialStage::Refused,
         }
+    }
+
+    /// Notes that the connection is there, and starts the time for the request.
+    fn begin_request(&mut self, now: u64) {
+        self.stage = DialStage::Asking;
+        let end = self.left(now, BEGIN_MILLIS);
+        self.deadline = Deadline::after(now, end).with_pause(now, DIAL_PAUSE_MILLIS);
     }
 
     /// The rest of a time limit that is counted from the beginning of the dial, in milliseconds.
@@ -163,32 +225,41 @@ impl Dial {
 
     /// Sends the request. A reply may have come before a write fails: a peer that refuses a request
     /// need not read the whole request.
-    fn ask(&mut self, stream: &mut TcpStream, tools: &mut Tools, now: u64) {
-        if !self.is_writable {
-            return;
-        }
-        let before = self.unsent.len();
-        match self.unsent.send(stream, tools) {
-            Moved::Nothing => self.is_writable = false,
-            Moved::Failed | Moved::End => {
-                self.unsent.clear(tools);
-                self.is_readable = true;
-            }
-            Moved::Bytes(_) => {}
-        }
-        if self.unsent.len() < before {
+    fn ask(&mut self, stream: &mut TcpStream, now: u64) {
+        let before = self.sent;
+        self.send(stream);
+        if self.sent > before {
             self.deadline.progress(now);
         }
-        if self.unsent.is_empty() {
+        if self.sent >= self.request.len() || self.is_cut {
             self.stage = DialStage::Waiting;
             self.deadline = Deadline::after(now, self.left(now, BEGIN_MILLIS));
+        }
+    }
+
+    /// Sends the bytes of the request that the socket takes now.
+    fn send(&mut self, stream: &mut TcpStream) {
+        for _ in 0..self.request.len() {
+            let rest = self.request.get(self.sent..).unwrap_or(&[]);
+            if rest.is_empty() || !self.is_writable {
+                return;
+            }
+            match write_some(stream, rest) {
+                Moved::Bytes(count) => self.sent = self.sent.saturating_add(count),
+                Moved::Nothing => self.is_writable = false,
+                Moved::Failed | Moved::End => {
+                    self.is_cut = true;
+                    self.is_readable = true;
+                    return;
+                }
+            }
         }
     }
 
     /// Reads the bytes that came of the reply.
     fn hear(&mut self, stream: &mut TcpStream, tools: &mut Tools, now: u64) {
         for _ in 0..MOST_READS {
-            if !self.is_readable || self.stage == DialStage::Over {
+            if !self.is_readable || matches!(self.stage, DialStage::Refused | DialStage::Over) {
                 return;
             }
             match self.reply.read(stream, tools) {
@@ -201,8 +272,8 @@ impl Dial {
                     }
                 }
                 Moved::Nothing => self.is_readable = false,
-                Moved::End => self.end(Coming::Ended),
-                Moved::Failed => self.end(Coming::Failed),
+                Moved::End => self.lose(Coming::Ended),
+                Moved::Failed => self.lose(Coming::Failed),
             }
         }
     }

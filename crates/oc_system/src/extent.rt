@@ -3,13 +3,13 @@
 
 ghost use Rattle.std.specs.Prelude.{◌≡◌, false, length, unwrap_or};
 ghost use Rattle.oc_http.specs.Fields.{is_unusable, length_of, lengths};
-ghost use Rattle.oc_system.specs.Extent.{AreWholeLines, IsLinesExtent, IsRequestExtent, IsResponseExtent, body_length, response_length};
+ghost use Rattle.oc_system.specs.Extent.{AreWholeLines, IsLinesExtent, IsReplyExtent, IsRequestExtent, body_end, body_length};
 
 use httparse::spans::{HeaderSpan, parse_request, parse_response};
 use httparse::{Error, Status};
 use oc_http::{FieldMatch, Fields, length_of};
 
-/// The parts of a message's head that tell its extent.
+/// The parts of a request's head that tell its extent.
 #[derive(Clone, Copy)]
 pub(crate) struct Outline {
     /// The length of the head, in bytes.
@@ -22,7 +22,29 @@ pub(crate) struct Outline {
     pub(crate) coded: bool,
 }
 
-/// The progress of a message.
+/// The end of the body of a reply.
+#[derive(Clone, Copy)]
+pub(crate) enum BodyEnd {
+    /// After this number of bytes.
+    Length(u64),
+    /// At the end of its transfer coding.
+    Coding,
+    /// At the end of the connection.
+    Connection,
+}
+
+/// The parts of a reply's head that tell its extent.
+#[derive(Clone, Copy)]
+pub(crate) struct ReplyOutline {
+    /// The length of the head, in bytes.
+    pub(crate) head: usize,
+    pub(crate) body: BodyEnd,
+    /// Whether the peer waits for another request after the reply: it is of version 1.1, and no
+    /// Connection field lists `close` (RFC 9112, section 9.3).
+    pub(crate) keeps: bool,
+}
+
+/// The progress of a request.
 #[derive(Clone, Copy)]
 pub(crate) enum HeadProgress {
     /// The head is not complete.
@@ -80,34 +102,40 @@ fn whole_lines(bytes: &[u8]) -> &[u8]
     lines
 }
 
-/// The progress of a response (RFC 9112, sections 2 to 6), in the same way.
-pub(crate) fn response_extent(bytes: &[u8], spans: &mut [HeaderSpan]) -> HeadProgress
-    ensures { IsResponseExtent (length spans.old) bytes.now result }
+/// The outline of a response (RFC 9112, sections 2 to 6), once its head is complete. The spans are
+/// room for the fields; a head with more fields has no outline.
+pub(crate) fn reply_extent(bytes: &[u8], spans: &mut [HeaderSpan]) -> Option<ReplyOutline>
+    ensures { IsReplyExtent (length spans.old) bytes.now result }
 {
     match parse_response(bytes, spans) {
         Ok(Status::Complete(parts)) => {
             let fields = Fields::of(bytes, &spans[..parts.headers]);
-            HeadProgress::Begun(Outline {
+            Some(ReplyOutline {
                 head: parts.len,
-                body: response_length(parts.code, &fields),
-                expects: false,
-                coded: fields.is_present("transfer-encoding"),
+                body: body_end(parts.code, &fields),
+                keeps: parts.version == 1 && !fields.closes(),
             })
         }
-        Ok(Status::Partial) => HeadProgress::Open,
-        Err(Error::TooManyHeaders) => HeadProgress::Never,
-        Err(_) => HeadProgress::Never,
+        Ok(Status::Partial) => None,
+        Err(Error::TooManyHeaders) => None,
+        Err(_) => None,
     }
 }
 
-/// The length of the body of a response with this status. A 204 has none.
-fn response_length(status: u16, fields: &Fields) -> Option<u64>
-    ensures { result ≡ response_length status (lengths fields.now) }
+/// The end of the body of a response with this status. A 204 and a 304 have none, and a transfer
+/// coding decides before a Content-Length (RFC 9112, section 6.3).
+fn body_end(status: u16, fields: &Fields) -> BodyEnd
+    ensures { result ≡ body_end status fields.now }
 {
-    if status == 204 {
-        Some(0)
-    } else {
-        told_length(fields)
+    if status == 204 || status == 304 {
+        return BodyEnd::Length(0);
+    }
+    if fields.is_present("transfer-encoding") {
+        return BodyEnd::Coding;
+    }
+    match told_length(fields) {
+        Some(length) => BodyEnd::Length(length),
+        None => BodyEnd::Connection,
     }
 }
 

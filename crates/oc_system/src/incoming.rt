@@ -1,4 +1,4 @@
-ghost use Rattle.std.specs.Prelude.{◌≡◌, false, true};
+ghost use Rattle.std.specs.Prelude.{◌≡◌, ◌≤◌, false, length, true};
 
 use crate::extent::{HeadProgress, Outline, request_extent};
 use crate::limits::{MOST_MESSAGE, MOST_READS};
@@ -30,7 +30,9 @@ pub(crate) struct Incoming {
     /// Whether the request was reported in its present state and left, so that more bytes are
     /// wanted.
     was_left: bool,
-    /// Whether the peer sends no more, and whether a call failed.
+    /// Whether the system reported that the peer sends no more: then the end comes after the bytes.
+    pub(crate) is_ending: bool,
+    /// Whether the end was read, and whether a call failed.
     pub(crate) has_ended: bool,
     pub(crate) has_failed: bool,
 }
@@ -42,6 +44,7 @@ impl Incoming {
             outline: None,
             is_hopeless: false,
             was_left: false,
+            is_ending: false,
             has_ended: false,
             has_failed: false,
         }
@@ -69,7 +72,15 @@ impl Incoming {
             if self.is_over() || self.is_ripe(permitted) || self.bytes.len() >= most {
                 break;
             }
-            match self.read_piece(stream, tools, most) {
+            let room = self.room(tools, most);
+            match self.read_piece(stream, tools, room) {
+                // The system reports what comes after a read that got less than it might have.
+                Moved::Bytes(count) if count < room && !self.is_ending => {
+                    return Intake {
+                        has_come: true,
+                        is_drained: true,
+                    };
+                }
                 Moved::Bytes(_) => has_come = true,
                 Moved::Nothing => {
                     return Intake {
@@ -87,9 +98,17 @@ impl Incoming {
         }
     }
 
+    /// The length of the next piece to read, if there may be `most` bytes in all.
+    fn room(&self, tools: &Tools, most: usize) -> usize
+        ensures { result ≤ length tools.now.piece.items }
+    {
+        most.saturating_sub(self.bytes.len()).min(tools.piece.len())
+    }
+
     /// Reads one piece, and looks at it. Lack of memory counts as a failure, as of a call.
-    fn read_piece(&mut self, stream: &mut TcpStream, tools: &mut Tools, most: usize) -> Moved {
-        let room = most.saturating_sub(self.bytes.len()).min(tools.piece.len());
+    fn read_piece(&mut self, stream: &mut TcpStream, tools: &mut Tools, room: usize) -> Moved
+        requires { room ≤ length tools.old.piece.items }
+    {
         let moved = read_some(stream, &mut tools.piece[..room]);
         if let Moved::Bytes(count) = moved {
             let before = self.bytes.len();

@@ -22,9 +22,14 @@ pub(crate) const MOST_LARGE: usize = 64;
 /// holds no place for long, and 128 kbit/s are always enough.
 pub(crate) const LARGE_BYTES_A_MILLI: u64 = 16;
 
-/// The greatest number of bytes that a connection was given and that did not go out. No single
-/// write has many more, and bytes that the socket takes at once are not counted.
-pub(crate) const MOST_UNSENT: usize = 524_288;
+/// The number of unsent bytes of replies from which the next request of a connection waits, and
+/// what comes of it waits in the socket. A client that asks on and reads nothing is held up so.
+pub(crate) const MOST_AHEAD: usize = 262_144;
+
+/// The greatest number of bytes that a connection was given and that did not go out: those before
+/// its last request, and 524,288 of the last reply. No single write has many more, and bytes that
+/// the socket takes at once are not counted.
+pub(crate) const MOST_UNSENT: usize = MOST_AHEAD + 524_288;
 
 /// The length in bytes of the send buffer that the system is asked for. The system's own choice
 /// grows to several MB, and would hide for minutes whether a slow reader takes anything.
@@ -62,6 +67,17 @@ pub(crate) const DIAL_PAUSE_MILLIS: u64 = 10_000;
 pub(crate) const BEGIN_MILLIS: u64 = 25_000;
 
 pub(crate) const DIAL_MILLIS: u64 = 300_000;
+
+/// The time for which the connection of a dial is kept for the next one to its address, and the
+/// greatest number of connections that are kept. A node closes a connection that asks nothing after
+/// `HEAD_MILLIS`, so a kept one is given up before.
+pub(crate) const SPARE_MILLIS: u64 = 8_000;
+
+pub(crate) const MOST_SPARE: usize = 32;
+
+/// The time in which the peer's system has to acknowledge what is sent on a kept connection. A new
+/// connection shows in `CONNECT_MILLIS` that a peer has vanished, and so a kept one has to.
+pub(crate) const ACKNOWLEDGE_MILLIS: i32 = 2_000;
 
 /// The times for a call of a client: in all, since a node may keep a client that follows waiting
 /// for ten seconds; and for one address of a name, so that there is time for the next one.

@@ -209,8 +209,9 @@ impl<R: Net<Stream = TcpStream> + Clock + Eprint + Files<File = File>> Link for 
     }
 
     fn break_off(&mut self, connection: ConnectionId) {
+        let now = self.watch.millis(self.rt);
         if let Some(sockets) = &mut self.sockets {
-            sockets.break_off(connection);
+            sockets.break_off(connection, now);
         }
     }
 

@@ -12,16 +12,20 @@ pub(crate) struct Woken {
     pub(crate) token: usize,
     pub(crate) is_readable: bool,
     pub(crate) is_writable: bool,
+    /// Whether the peer sends no more.
+    pub(crate) is_ending: bool,
     pub(crate) has_failed: bool,
 }
 
 impl Woken {
     fn of(event: &Event) -> Woken {
         let has_failed = event.is_error();
+        let is_ending = has_failed || event.is_read_closed();
         Woken {
             token: event.token().0,
-            is_readable: has_failed || event.is_readable() || event.is_read_closed(),
+            is_readable: is_ending || event.is_readable(),
             is_writable: has_failed || event.is_writable() || event.is_write_closed(),
+            is_ending,
             has_failed,
         }
     }

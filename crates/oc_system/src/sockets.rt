@@ -11,6 +11,7 @@ use crate::limits::{
 use crate::places::ConnectionPlaces;
 use crate::poller::Poller;
 use crate::send_buffer::shorten_send_buffers;
+use crate::spares::SpareConnections;
 use crate::times::Watch;
 use crate::tools::Tools;
 use crate::turn_queue::TurnQueue;
@@ -38,6 +39,8 @@ pub(crate) struct SocketEvent {
 struct Lost {
     connection: ConnectionId,
     loss: Loss,
+    /// Whether the loss of an earlier reply is to be reported, too.
+    is_watched: bool,
 }
 
 /// The sockets of a running node: those of incoming connections, those of its dials, and the
@@ -57,6 +60,7 @@ pub(crate) struct Sockets {
     spare: Option<Registry>,
     places: ConnectionPlaces,
     dials: Vec<Option<Dial>>,
+    spares: SpareConnections,
     turns: TurnQueue,
     /// The places that wait for one of the places for large requests, and the number of those
     /// taken.
@@ -96,6 +100,7 @@ impl Sockets {
             spare: Some(spare),
             places: ConnectionPlaces::new(alloc)?,
             dials,
+            spares: SpareConnections::new(alloc)?,
             turns: TurnQueue::new(alloc, PLACES + DIALS)?,
             held: TurnQueue::new(alloc, PLACES)?,
             large: 0,
@@ -183,6 +188,8 @@ impl Sockets {
             } else if let Some(connection) = self.places.get_mut(woken.token) {
                 connection.is_readable = connection.is_readable || woken.is_readable;
                 connection.is_writable = connection.is_writable || woken.is_writable;
+                let incoming = &mut connection.incoming;
+                incoming.is_ending = incoming.is_ending || woken.is_ending;
                 if woken.has_failed {
                     connection.note_failure();
                 }
@@ -216,6 +223,7 @@ impl Sockets {
                 self.lose(place, Loss::GaveWay);
             }
         }
+        self.spares.drop_old(now);
         // A connection that waited may be gone meanwhile, and its free place still be free.
         for _ in self.large..MOST_LARGE {
             if let Some(place) = self.held.pop() {

@@ -91,8 +91,22 @@ impl TimedStream {
         Ok(self.came)
     }
 
+    /// Whether the connection can be used for another request: neither a byte nor the end has come
+    /// after what was given.
+    pub(crate) fn is_silent(&self) -> bool {
+        if !self.waiting().is_empty() || self.stream.set_nonblocking(true).is_err() {
+            return false;
+        }
+        let mut byte = [0u8; 1];
+        let would_wait = match self.stream.peek(&mut byte) {
+            Err(error) => error.kind() == ErrorKind::WouldBlock,
+            Ok(_) => false,
+        };
+        would_wait && self.stream.set_nonblocking(false).is_ok()
+    }
+
     /// The bytes that came and were not given yet.
-    fn waiting(&self) -> &[u8] {
+    pub(crate) fn waiting(&self) -> &[u8] {
         self.piece.get(self.given..self.came).unwrap_or(&[])
     }
 }

@@ -34,7 +34,7 @@ impl Sockets {
                     self.restore_spare();
                 }
                 Err(error) if is_out_of_files(&error) => {
-                    if self.spare.take().is_none() && !self.give_way() {
+                    if self.spare.take().is_none() && !self.free_file() {
                         self.shut(now);
                         return;
                     }
@@ -62,13 +62,13 @@ impl Sockets {
         self.shut_until = now.saturating_add(SHUT_MILLIS);
     }
 
-    /// Takes a spare descriptor, if there is none. A connection gives way for it.
+    /// Takes a spare descriptor, if there is none. A connection is closed for it.
     fn restore_spare(&mut self) {
         if self.spare.is_some() {
             return;
         }
         self.spare = self.poller.registry().try_clone().ok();
-        if self.spare.is_none() && self.give_way() {
+        if self.spare.is_none() && self.free_file() {
             self.spare = self.poller.registry().try_clone().ok();
         }
     }
@@ -87,13 +87,32 @@ impl Sockets {
         self.turns.push_asking(place);
     }
 
-    /// Drops the connection that has to give way first; false if none may be asked to.
+    /// Closes a connection when the system has no more files: one that is kept for the next dial,
+    /// or else the one that has to give way first. False if there is none.
+    pub(super) fn free_file(&mut self) -> bool {
+        self.spares.drop_oldest() || self.give_way()
+    }
+
+    /// Drops the connection that has to give way first; false if none may be asked to. A request
+    /// that came on a kept connection and was not read yet is not dropped for another one.
     pub(super) fn give_way(&mut self) -> bool {
-        match self.places.first_to_yield() {
-            Some(place) => {
+        for _ in 0..PLACES {
+            let Some(place) = self.places.first_to_yield() else {
+                return false;
+            };
+            if !self.has_news(place) {
                 self.lose(place, Loss::GaveWay);
-                true
+                return true;
             }
+            self.turns.push_asking(place);
+        }
+        false
+    }
+
+    /// Whether a kept connection at this place has something to be looked at first.
+    fn has_news(&mut self, place: usize) -> bool {
+        match self.places.get_mut(place) {
+            Some(connection) => connection.has_news(&mut self.tools),
             None => false,
         }
     }
@@ -105,6 +124,7 @@ impl Sockets {
                 let lost = Lost {
                     connection: ConnectionId(connection.id),
                     loss,
+                    is_watched: connection.is_watched,
                 };
                 // There is room: no more connections are accepted once as many losses wait to be
                 // reported as there are places.

@@ -74,16 +74,30 @@ impl Sockets {
         }
     }
 
-    /// Ends a connection at once.
-    pub(crate) fn break_off(&mut self, connection: ConnectionId) {
+    /// Ends a connection, after the replies to its earlier requests.
+    pub(crate) fn break_off(&mut self, connection: ConnectionId, now: u64) {
         match self.places.place_of(connection.0) {
-            Some(place) => self.drop_at(place),
+            Some(place) => self.leave_off(place, now),
             None => self.forget(connection),
         }
     }
 
-    /// Drops the report that a connection was lost.
+    /// Ends the connection at this place without a reply to its last request.
+    pub(super) fn leave_off(&mut self, place: usize, now: u64) {
+        let Some(connection) = self.places.get_mut(place) else {
+            return;
+        };
+        connection.leave(now);
+        if connection.stage == ConnectionStage::Over {
+            self.drop_at(place);
+        } else {
+            self.turns.push(place);
+        }
+    }
+
+    /// Drops the report that a connection was lost, if it concerns its last reply alone.
     fn forget(&mut self, connection: ConnectionId) {
-        self.gone.retain(|lost| lost.connection != connection);
+        self.gone
+            .retain(|lost| lost.connection != connection || lost.is_watched);
     }
 }

@@ -29,9 +29,29 @@ impl Sockets {
             *place = Some(dial);
         }
         let place = PLACES.saturating_add(slot);
+        self.resume(place, now);
         self.connect(rt, place, now);
         self.turns.push(place);
         true
+    }
+
+    /// Lets a new dial use a kept connection, if there is one to its address.
+    fn resume(&mut self, place: usize, now: u64) {
+        let Some(dial) = dial_at(&mut self.dials, place) else {
+            return;
+        };
+        if !dial.may_resume() {
+            return;
+        }
+        let Some((index, mut stream)) = self.spares.take(dial.addresses(), now) else {
+            return;
+        };
+        // The system reported the socket with the place of an earlier dial.
+        let both = Interest::READABLE | Interest::WRITABLE;
+        let registry = self.poller.registry();
+        if registry.reregister(&mut stream, Token(place), both).is_ok() {
+            dial.resume(stream, index, now);
+        }
     }
 
     /// Begins to connect a dial to the next of its addresses, and fails it if there is no further
@@ -56,7 +76,7 @@ impl Sockets {
         }
     }
 
-    /// A socket that is being connected. If the system has no more files, a connection gives way: a
+    /// A socket that is being connected. If the system has no more files, a connection is closed: a
     /// node that can't dial loses its place in the tree, while a client comes again.
     fn stream_to<R: Net<Stream = TcpStream>>(
         &mut self,
@@ -64,7 +84,7 @@ impl Sockets {
         address: SocketAddr,
     ) -> io::Result<Stream> {
         match Stream::connect(rt, address) {
-            Err(error) if is_out_of_files(&error) && self.give_way() => {
+            Err(error) if is_out_of_files(&error) && self.free_file() => {
                 Stream::connect(rt, address)
             }
             made => made,
@@ -110,6 +130,9 @@ impl Sockets {
         }
         if dial.stage != DialStage::Over {
             return None;
+        }
+        if let Some((stream, address)) = dial.kept() {
+            self.spares.keep(stream, address, now);
         }
         let (coming, bytes) = dial.outcome(&self.tools);
         let event = LinkEvent::Reply(dial.id, coming);

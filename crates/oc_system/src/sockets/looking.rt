@@ -37,7 +37,7 @@ impl Sockets {
         connection.advance(&mut self.tools, now, most);
         connection.expire(now);
         if connection.is_left() {
-            self.drop_at(place);
+            self.leave_off(place, now);
             return None;
         }
         if connection.incoming.len() > LARGE_BYTES && !connection.is_large {

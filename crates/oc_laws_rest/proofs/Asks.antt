@@ -54,7 +54,7 @@ module _ (h : Header) where
   pub sound_of : (w : World) → Reached h w → AreSound w
   sound_of w reached = of_reached AreSound sound_after h w reached
 
-  round_asks : (w : World) (least : ℕ) (r : Round) → Reached h w → is_round least w r ≡ true → NobodyAsks (after_round w r)
+  pub round_asks : (w : World) (least : ℕ) (r : Round) → Reached h w → is_round least w r ≡ true → NobodyAsks (after_round w r)
   round_asks w least r reached is x p up e =
       (round_answers w AreSound Free least (all_free least) r is (sound_of (after_turns w r.turns) (reached_turns h r.turns w reached))).asks x p up e
 

@@ -1,5 +1,5 @@
 -- A lease of a child that sends nothing more runs out: the effect of each input on its end.
-use Rattle.std.proofs.Common.{◌≡◌, ℕ, ◌+◌, ◌-◌, ◌≤◌, max, Bool, true, false, not, ◌&&◌, ◌==◌, if◌then◌else◌, Option, Some, None, List, [], ◌∷◌, ◌⊎◌, inl, inr, set, length, refl, ap, sym, subst, ◌∙◌, ⊎_elim, arith, ne_eqb}
+use Rattle.std.proofs.Common.{◌≡◌, ℕ, ◌+◌, ◌-◌, ◌≤◌, max, Bool, true, false, not, ◌&&◌, ◌==◌, if◌then◌else◌, Option, Some, None, List, [], ◌∷◌, ◌⊎◌, inl, inr, length, refl, ap, sym, subst, ◌∙◌, ⊎_elim, arith, ne_eqb}
 use Rattle.std.proofs.lemmas.Bool.{cases_eq, true≢false, and_right}
 use Rattle.std.proofs.lemmas.List.{length-set}
 use Rattle.oc_base.specs.declared.cert.Cert.{Cert}
@@ -14,7 +14,7 @@ use Rattle.oc_model.specs.declared.message.Message.{Message}
 use Rattle.oc_model.specs.declared.record.Record.TheVariants as records
 use Rattle.oc_model.specs.Adopting.{raises_over, host, birth, has_lease, grants, sends_rejoin, adopts, answers_ask, asked}
 use Rattle.oc_model.specs.Adoption.{rank_or_last, adoption_refusal}
-use Rattle.oc_model.specs.Checking.{merges, merges_all, at_time, starts_leases, dies, ends_each, ends_leases, checks_if_due, tick, acknowledges, life, checked_in}
+use Rattle.oc_model.specs.Checking.{merges, merges_all, at_time, starts_leases, dies, ends_each, ends_leases, checks_if_due, acknowledges, life, checked_in}
 use Rattle.oc_model.specs.Leases.{lease_time, renew, start_if, start_each, ended}
 use Rattle.oc_model.specs.Node.{Control, Node}
 use Rattle.oc_model.specs.Numbers.{IsAmong, at}
@@ -30,6 +30,7 @@ use Rattle.oc_laws_tree.proofs.LeasesAhead.{leased_merge_other, leased_put_none,
 use Rattle.oc_laws_tree.proofs.LeaseTicks.{leased_among}
 use Rattle.oc_laws_tree.proofs.Ticks.{set_at}
 use Rattle.oc_laws_rest.proofs.Holding.{kept_starts}
+use Rattle.oc_laws_rest.proofs.Mild.{IsMild}
 use Rattle.oc_laws_rest.proofs.Rows.{renewed}
 
 -- a lease after a merge was there before, if the merged word is a death, or known where it names the owner of the table
@@ -185,6 +186,22 @@ module _ (x bound : ℕ) where
 
   pub message_ends : (n : Node) (m : Message) → (m.from ≡ x → ⊥) → (m.from - 1 ≡ x - 1 → ⊥) → IsKnownTo n.control m.body → HasEnd n.control → HasEnd (step n (Delivered m)).node.control
   message_ends n m other apart known h = received_ends n.control (shelf n.groups) m.from m.body other apart known h
+
+  -- a message that is no ask and no check-in, of any node
+  received_mild : (n : Control) (ls : List Shelf) (y : ℕ) (b : Body) → IsMild b → OfPlan EndsBy (begun n) → OfPlan EndsBy (received (begun n) ls y b)
+  received_mild n ls y bodies.Look mild h = h
+  received_mild n ls y (bodies.LookIs is_in parent rate children) mild h = stays_sees EndsBy (begun n) y (record { in_tree = is_in; parent = parent; rate = rate; children = children }) h
+  received_mild n ls y (bodies.Ask seq rank) mild h = absurd mild
+  received_mild n ls y (bodies.Yes seq rank ancestors) mild h = stays_took_yes EndsBy (begun n) y seq rank ancestors h
+  received_mild n ls y (bodies.No seq why) mild h = stays_took_no EndsBy (begun n) y seq why h
+  received_mild n ls y (bodies.CheckIn seq upto rate number clients certs) mild h = absurd mild
+  received_mild n ls y (bodies.CheckAck seq upto rank ancestors) mild h = stays_took_ack EndsBy (begun n) y seq upto rank ancestors h
+  received_mild n ls y (bodies.Rejoin seq) mild h = stays_took_rejoin EndsBy (begun n) y seq h
+  received_mild n ls y (bodies.Fetch have) mild h = stays_fetched EndsBy (begun n) ls y have h
+  received_mild n ls y (bodies.Chunk g start bytes last) mild h = stays_took_chunk EndsBy (begun n) ls y g start bytes last h
+
+  pub mild_ends : (n : Node) (m : Message) → IsMild m.body → HasEnd n.control → HasEnd (step n (Delivered m)).node.control
+  mild_ends n m mild h = received_mild n.control (shelf n.groups) m.from m.body mild h
 
   pub failure_ends : (n : Node) (q : ℕ) → HasEnd n.control → HasEnd (step n (Unreachable q)).node.control
   failure_ends n q h = stays_unreachable EndsBy (begun n.control) q h

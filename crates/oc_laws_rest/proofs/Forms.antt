@@ -148,7 +148,7 @@ each_once_in out (x ∷ xs) p one = by_test (has out x) (each_once_in out xs p) 
   by_test false skip go (inl same) = inl same
   by_test false skip go (inr later) = inr (go later)
 
-in_each_once : (out xs : List ℕ) (p : ℕ) → has out p ≡ false → IsOneOf p xs → IsOneOf p (each_once out xs)
+pub in_each_once : (out xs : List ℕ) (p : ℕ) → has out p ≡ false → IsOneOf p xs → IsOneOf p (each_once out xs)
 in_each_once out [] p free one = absurd one
 in_each_once out (x ∷ xs) p free one =
     ⊎_elim (λ (same : x ≡ p). here same) (λ other. by_test (has out x) other (in_each_once out xs p free) (λ apart. in_each_once (x ∷ out) xs p (rw (ne_eqb x p apart) free)) one) (cases_eq x p) where

@@ -1,5 +1,5 @@
 -- A node that holds the lease of a child keeps it at a tick before the lease's end, and does not call the child back.
-use Rattle.std.proofs.Common.{◌≡◌, ℕ, ◌+◌, ◌-◌, ◌<◌, max, true, false, not, ◌&&◌, ◌==◌, nat_le, if◌then◌else◌, Option, Some, None, List, [], ◌∷◌, ◌++◌, ◌⊎◌, inl, inr, get_or, set, refl, ap, sym, subst, ◌∙◌, ⊎_elim, arith, eq-eqb}
+use Rattle.std.proofs.Common.{◌≡◌, ℕ, ◌+◌, ◌-◌, ◌<◌, max, true, false, not, ◌&&◌, ◌==◌, nat_le, if◌then◌else◌, Option, Some, None, List, [], ◌∷◌, ◌++◌, inl, inr, get_or, refl, ap, sym, subst, ◌∙◌, ⊎_elim, arith, eq-eqb}
 use Rattle.std.specs.List.{AllByRecursion}
 use Rattle.std.proofs.lemmas.Bool.{cond_both, true≢false, leb-true}
 use Rattle.oc_base.specs.declared.cert.Cert.{Cert}
@@ -14,7 +14,7 @@ use Rattle.oc_model.specs.declared.message.Message.{Message}
 use Rattle.oc_model.specs.declared.record.Record.TheVariants as records
 use Rattle.oc_model.specs.Adopting.{is_acting, is_number, raises, raises_over, host, birth, has_lease, grants, sends_rejoin, adopts, answers_ask, asked}
 use Rattle.oc_model.specs.Adoption.{precedes, rank_or_last, adoption_refusal}
-use Rattle.oc_model.specs.Checking.{merges, merges_all, at_time, starts_leases, dies, ends_each, ends_leases, checks_if_due, tick, acknowledges, life, checked_in}
+use Rattle.oc_model.specs.Checking.{merges, merges_all, at_time, starts_leases, dies, ends_each, ends_leases, checks_if_due, acknowledges, life, checked_in}
 use Rattle.oc_model.specs.Leases.{lease_time, start_if, start_each, is_over, ended}
 use Rattle.oc_model.specs.Node.{Node}
 use Rattle.oc_model.specs.Numbers.{raise, at}
@@ -164,7 +164,7 @@ module _ (x s : ℕ) where
     by_body (bodies.Ask seq r) e = subst (λ (k : Message). AllByRecursion IsNoCall (step n (Delivered k)).sends) (sym (same (bodies.Ask seq r) e)) (asks seq r)
     by_body (bodies.CheckIn seq upto rate number clients certs) e =
         subst (λ (k : Message). AllByRecursion IsNoCall (step n (Delivered k)).sends) (sym (same (bodies.CheckIn seq upto rate number clients certs) e)) (reports seq upto rate number clients certs)
-    by_body bodies.Look e = other bodies.Look e tt
+    by_body bodies.Look e = subst (λ (k : Message). AllByRecursion IsNoCall (step n (Delivered k)).sends) (sym (same bodies.Look e)) ((λ to f. absurd cc), tt)
     by_body (bodies.LookIs is_in parent rate children) e = other (bodies.LookIs is_in parent rate children) e tt
     by_body (bodies.Yes seq rank ancestors) e = other (bodies.Yes seq rank ancestors) e tt
     by_body (bodies.No seq why) e = other (bodies.No seq why) e tt

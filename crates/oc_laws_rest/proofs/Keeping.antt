@@ -61,6 +61,11 @@ unmeasured : (n : Control) (cs : List Child) → AreNone n.kept.measures → All
 unmeasured n [] none = tt
 unmeasured n (c ∷ cs) none = (none c.id, unmeasured n cs none)
 
+-- no child is chosen
+pub nobody_chosen : (n : Control) (direct : ℕ) (cs : List Child) → AreNone n.kept.measures → chosen direct (candidates n cs) ≡ None
+nobody_chosen n direct cs none =
+    ap (λ (ks : List Candidate). option_map (λ (c : Candidate). c.id) (nearest ks)) (none_suitable direct (candidates n cs) (unmeasured n (filter (λ c. not (c.id == n.me)) cs) none))
+
 abbrev HasNoRate : Option (ℕ × ℕ) → Type 0
 HasNoRate None = Unit {0}
 HasNoRate (Some g) = g.1 ≡ 0
@@ -69,7 +74,7 @@ HasNoRate (Some g) = g.1 ≡ 0
 stays_where : (n : Control) (p : ℕ) (st : Stand) → AreNone n.kept.measures → place_in (reviewed (view n p st)) ≡ None
 stays_where n p st none = by_grand (view n p st).grand (above st.parent) where
   nobody : chosen (view n p st).direct (view n p st).siblings ≡ None
-  nobody = ap (λ (cs : List Candidate). option_map (λ (c : Candidate). c.id) (nearest cs)) (none_suitable (view n p st).direct (candidates n st.children) (unmeasured n (filter (λ c. not (c.id == n.me)) st.children) none))
+  nobody = nobody_chosen n (view n p st).direct st.children none
 
   above : (parent : Option ℕ) → HasNoRate (grandparent n p parent)
   above None = tt
@@ -82,10 +87,14 @@ stays_where n p st none = by_grand (view n p st).grand (above st.parent) where
       false_from_ne_true (nat_lt (10 * min (view n p st).direct (view n p st).up) (9 * g.1)) (λ e. let less = ltb-true (10 * min (view n p st).direct (view n p st).up) (9 * g.1) e in omega (arith, less, h)) in
       rw (low, nobody) refl
 
-module _ (x p s : ℕ) (ms : List Reading) (none : AreNone ms) where
-  -- x is past the chain, is joined to p by the number s, and has these readings
+-- any second, and any of the next check
+abbrev pub IsAnyTime : ℕ → Option ℕ → Type 0
+IsAnyTime clock due = Unit {0}
+
+module _ (x p s : ℕ) (ms : List Reading) (none : AreNone ms) (E : ℕ → Option ℕ → Type 0) where
+  -- x is past the chain, is joined to p by the number s, has these readings, and E holds of its clock and its next check
   abbrev pub IsJoinedBy : Control → Type 0
-  IsJoinedBy n = (n.me ≡ x) × (is_member n ≡ false) × (n.kept.mode ≡ modes.Joined p) × (n.kept.seq ≡ s) × (n.kept.measures ≡ ms)
+  IsJoinedBy n = (n.me ≡ x) × (is_member n ≡ false) × (n.kept.mode ≡ modes.Joined p) × (n.kept.seq ≡ s) × (n.kept.measures ≡ ms) × E n.soft.clock n.soft.due
 
   -- it dials p alone
   abbrev pub DialsThere : Message → Type 0
@@ -249,53 +258,6 @@ module _ (x p s : ℕ) (ms : List Reading) (none : AreNone ms) where
   stays_received o ls q (bodies.Chunk g start bytes last) other h =
       either (o.node.me == 1) Stays (ignored o) (chunk_to o ls q (line_at g ls) start (start + length bytes) last) h (stays_chunk_to o ls q (line_at g ls) start (start + length bytes) last h)
 
-  -- A tick
-
-  stays_reports : (o : Plan) → Stays o → Stays (reports o p)
-  stays_reports o h =
-      let noted : Plan = notes_time o in
-      let counted : Plan = with_soft (write noted (records.Info (noted.node.kept.number + 1) (capped (noted.node.kept.clients + noted.node.soft.served)))) (record noted.node.soft { served = 0 }) in
-      either (not (noted.node.soft.served == 0) && nat_lt noted.node.kept.number number_end) (λ (q : Plan). Stays (checks_in q p)) counted noted (stays_send counted p _ (λ _. refl) h) (stays_send noted p _ (λ _. refl) h)
-
-  stays_forgets : (due : Option ℕ) (o : Plan) → Stays o → Stays (forgets_refusal due o)
-  stays_forgets None o h = h
-  stays_forgets (Some t) o h = h
-
-  stays_tick_checks : (o : Plan) → Stays o → Stays (tick_checks o)
-  stays_tick_checks o h = subst (λ (m : Mode). Stays (tick_checks_as m (sets_due o))) (sym (joined o h)) (stays_reports (sets_due o) h)
-
-  stays_looks : (o : Plan) → Stays o → Stays (looks_round (modes.Joined p) o)
-  stays_looks o h =
-      let nearer : List ℕ = filter (λ z. nat_lt p z) (below o.node.me) in
-      let reviewing : Plan = send (searching o (Some searches.Review)) p bodies.Look in
-      subst (λ (b : Bool). Stays (if b then looks_at_each nearer o else if o.node.soft.refused then o else reviewing)) (sym (outside o h))
-      (either o.node.soft.refused Stays o reviewing h (stays_send (searching o (Some searches.Review)) p bodies.Look (λ _. refl) h))
-
-  stays_checks_in_time : (o : Plan) → Stays o → Stays (checks_in_time o)
-  stays_checks_in_time o h =
-      let begins : Plan = forgets_refusal o.node.soft.due o in
-      subst (λ (m : Mode). Stays (looks_round m (tick_checks begins))) (sym (joined o h)) (stays_looks (tick_checks begins) (stays_tick_checks begins (stays_forgets o.node.soft.due o h)))
-
-  stays_reports_news : (o : Plan) → Stays o → Stays (reports_news o)
-  stays_reports_news o h = subst (λ (m : Mode). Stays (reports_news_as m o)) (sym (joined o h)) (either (has_news o.node) Stays (reports o p) o (stays_reports o h) h)
-
-  stays_dies : (e : Option Cert) (o : Plan) → Stays o → Stays (dies e o)
-  stays_dies None o h = h
-  stays_dies (Some c) o h = stays_merges o (record c { dead = true }) h
-
-  stays_ends_each : (ys : List ℕ) (o : Plan) → Stays o → Stays (ends_each ys o)
-  stays_ends_each [] o h = h
-  stays_ends_each (y ∷ ys) o h = stays_ends_each ys (dies (newest o.node.kept.table y) o) (stays_dies (newest o.node.kept.table y) o h)
-
-  stays_tick : (o : Plan) (ls : List Shelf) (t : ℕ) → Stays o → Stays (tick o ls t)
-  stays_tick o ls t h =
-      let started : Plan = starts_leases (at_time o t) in
-      let over : Plan = ends_leases started in
-      let all : Stays over = stays_ends_each (ended started.node.kept.table started.node.me started.node.leases started.node.soft.clock) started h in
-      let checked : Plan = checks_if_due over in
-      let done : Stays checked = either (is_due over.node.soft.due over.node.soft.clock) Stays (checks_in_time over) (reports_news over) (stays_checks_in_time over all) (stays_reports_news over all) in
-      subst (λ (m : Mode). Stays (fetches_as m checked ls)) (sym (joined checked done)) (stays_send checked p (bodies.Fetch ls) (λ _. refl) done)
-
   -- The step
 
   there_filled : (w : Option Want) (ks : List Group) (all : List Message) → AllByRecursion DialsThere all → AllByRecursion DialsThere (filled w ks all)
@@ -308,14 +270,65 @@ module _ (x p s : ℕ) (ms : List Reading) (none : AreNone ms) where
     pub member : IsJoinedBy n
     pub there : AllByRecursion DialsThere sends
 
-  pub tick_stays : (n : Node) (t : ℕ) → IsJoinedBy n.control → HasStayed (step n (Tick t)).node.control (step n (Tick t)).sends
-  tick_stays n t h =
-      let o : Plan = tick (begun n.control) (shelf n.groups) t in
-      let done : Stays o = stays_tick (begun n.control) (shelf n.groups) t (h, tt) in
-      record { member = done.0; there = there_filled o.wants n.groups o.sends done.1 }
-
   pub message_stays : (n : Node) (m : Message) → IsNoRecall m.from m.body → IsJoinedBy n.control → HasStayed (step n (Delivered m)).node.control (step n (Delivered m)).sends
   message_stays n m other h =
       let o : Plan = received (begun n.control) (shelf n.groups) m.from m.body in
       let done : Stays o = stays_received (begun n.control) (shelf n.groups) m.from m.body other (h, tt) in
       record { member = done.0; there = there_filled o.wants n.groups o.sends done.1 }
+
+module _ (x p s : ℕ) (ms : List Reading) (none : AreNone ms) where
+  abbrev StaysAny : Plan → Type 0
+  StaysAny o = Stays x p s ms none IsAnyTime o
+
+  -- A tick
+
+  stays_reports : (o : Plan) → StaysAny o → StaysAny (reports o p)
+  stays_reports o h =
+      let noted : Plan = notes_time o in
+      let counted : Plan = with_soft (write noted (records.Info (noted.node.kept.number + 1) (capped (noted.node.kept.clients + noted.node.soft.served)))) (record noted.node.soft { served = 0 }) in
+      either (not (noted.node.soft.served == 0) && nat_lt noted.node.kept.number number_end) (λ (q : Plan). StaysAny (checks_in q p)) counted noted (stays_send x p s ms none IsAnyTime counted p _ (λ _. refl) h) (stays_send x p s ms none IsAnyTime noted p _ (λ _. refl) h)
+
+  stays_forgets : (due : Option ℕ) (o : Plan) → StaysAny o → StaysAny (forgets_refusal due o)
+  stays_forgets None o h = h
+  stays_forgets (Some t) o h = h
+
+  stays_tick_checks : (o : Plan) → StaysAny o → StaysAny (tick_checks o)
+  stays_tick_checks o h = subst (λ (m : Mode). StaysAny (tick_checks_as m (sets_due o))) (sym (joined x p s ms none IsAnyTime o h)) (stays_reports (sets_due o) h)
+
+  stays_looks : (o : Plan) → StaysAny o → StaysAny (looks_round (modes.Joined p) o)
+  stays_looks o h =
+      let nearer : List ℕ = filter (λ z. nat_lt p z) (below o.node.me) in
+      let reviewing : Plan = send (searching o (Some searches.Review)) p bodies.Look in
+      subst (λ (b : Bool). StaysAny (if b then looks_at_each nearer o else if o.node.soft.refused then o else reviewing)) (sym (outside x p s ms none IsAnyTime o h))
+      (either o.node.soft.refused StaysAny o reviewing h (stays_send x p s ms none IsAnyTime (searching o (Some searches.Review)) p bodies.Look (λ _. refl) h))
+
+  stays_checks_in_time : (o : Plan) → StaysAny o → StaysAny (checks_in_time o)
+  stays_checks_in_time o h =
+      let begins : Plan = forgets_refusal o.node.soft.due o in
+      subst (λ (m : Mode). StaysAny (looks_round m (tick_checks begins))) (sym (joined x p s ms none IsAnyTime o h)) (stays_looks (tick_checks begins) (stays_tick_checks begins (stays_forgets o.node.soft.due o h)))
+
+  stays_reports_news : (o : Plan) → StaysAny o → StaysAny (reports_news o)
+  stays_reports_news o h = subst (λ (m : Mode). StaysAny (reports_news_as m o)) (sym (joined x p s ms none IsAnyTime o h)) (either (has_news o.node) StaysAny (reports o p) o (stays_reports o h) h)
+
+  stays_dies : (e : Option Cert) (o : Plan) → StaysAny o → StaysAny (dies e o)
+  stays_dies None o h = h
+  stays_dies (Some c) o h = stays_merges x p s ms none IsAnyTime o (record c { dead = true }) h
+
+  stays_ends_each : (ys : List ℕ) (o : Plan) → StaysAny o → StaysAny (ends_each ys o)
+  stays_ends_each [] o h = h
+  stays_ends_each (y ∷ ys) o h = stays_ends_each ys (dies (newest o.node.kept.table y) o) (stays_dies (newest o.node.kept.table y) o h)
+
+  stays_tick : (o : Plan) (ls : List Shelf) (t : ℕ) → StaysAny o → StaysAny (tick o ls t)
+  stays_tick o ls t h =
+      let started : Plan = starts_leases (at_time o t) in
+      let over : Plan = ends_leases started in
+      let all : StaysAny over = stays_ends_each (ended started.node.kept.table started.node.me started.node.leases started.node.soft.clock) started h in
+      let checked : Plan = checks_if_due over in
+      let done : StaysAny checked = either (is_due over.node.soft.due over.node.soft.clock) StaysAny (checks_in_time over) (reports_news over) (stays_checks_in_time over all) (stays_reports_news over all) in
+      subst (λ (m : Mode). StaysAny (fetches_as m checked ls)) (sym (joined x p s ms none IsAnyTime checked done)) (stays_send x p s ms none IsAnyTime checked p (bodies.Fetch ls) (λ _. refl) done)
+
+  pub tick_stays : (n : Node) (t : ℕ) → IsJoinedBy x p s ms none IsAnyTime n.control → HasStayed x p s ms none IsAnyTime (step n (Tick t)).node.control (step n (Tick t)).sends
+  tick_stays n t h =
+      let o : Plan = tick (begun n.control) (shelf n.groups) t in
+      let done : StaysAny o = stays_tick (begun n.control) (shelf n.groups) t (h, tt) in
+      record { member = done.0; there = there_filled x p s ms none IsAnyTime o.wants n.groups o.sends done.1 }

@@ -24,3 +24,14 @@ pub mod Near
 pub mod Reigning
 pub mod Forgetting
 pub mod Forgets
+pub mod Seeking
+pub mod Crown
+pub mod Within
+pub mod Welcoming
+pub mod Mild
+pub mod Places
+pub mod Readies
+pub mod Timing
+pub mod Endings
+pub mod Hushes
+pub mod Hush

@@ -1,5 +1,5 @@
 -- Lease ends are near: each that is set is at most a lease's time later than its node's clock.
-use Rattle.std.proofs.Common.{◌≡◌, ℕ, zero, suc, ◌+◌, ◌-◌, ◌≤◌, max, true, if◌then◌else◌, Option, Some, None, List, [], ◌∷◌, ◌⊎◌, get_or, replicate, refl, sym, subst, ◌∙◌, ⊎_elim, arith}
+use Rattle.std.proofs.Common.{◌≡◌, ℕ, zero, suc, ◌+◌, ◌-◌, ◌≤◌, max, true, if◌then◌else◌, Option, Some, None, List, [], ◌∷◌, get_or, replicate, refl, sym, subst, ◌∙◌, ⊎_elim, arith}
 use Rattle.std.specs.List.{range_with_len}
 use Rattle.oc_base.specs.declared.cert.Cert.{Cert}
 use Rattle.oc_base.specs.declared.rank.Rank.{Rank}

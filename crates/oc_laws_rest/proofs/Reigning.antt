@@ -20,7 +20,7 @@ use Rattle.oc_model.specs.declared.soft.Search.{Search}
 use Rattle.oc_model.specs.Adopting.{is_acting, raises, raises_over, host, birth, has_lease, grants, sends_rejoin, adopts, answers_ask, asked}
 use Rattle.oc_model.specs.Adoption.{precedes, precedes_any, rank_or_last, adoption_refusal}
 use Rattle.oc_model.specs.Asking.{lost, ask_before, is_asking, ancestors_by, joins, refused, not_seen, not_reached}
-use Rattle.oc_model.specs.Checking.{sets_due, merges, merges_all, at_time, starts_leases, dies, ends_each, ends_leases, looks_at_each, looks_round, is_due, forgets_refusal, tick_checks_as, tick_checks, checks_in_time, reports_news, checks_if_due, fetches_as, tick, acknowledges, life, checked_in, is_joined_to, takes_place, takes_rank_unless, takes_ancestors, is_peer}
+use Rattle.oc_model.specs.Checking.{sets_due, merges, merges_all, at_time, starts_leases, dies, ends_each, ends_leases, looks_at_each, looks_round, is_due, forgets_refusal, tick_checks_as, tick_checks, checks_in_time, reports_news, checks_if_due, fetches_as, acknowledges, life, checked_in, is_joined_to, takes_place, takes_rank_unless, takes_ancestors, is_peer}
 use Rattle.oc_model.specs.Choice.{below}
 use Rattle.oc_model.specs.Content.{unless, keeps, answers_fetch, adds_seal, adds, grown_line, asks_on, keeps_chunk, chunk_to}
 use Rattle.oc_model.specs.Leases.{ended}
@@ -33,10 +33,10 @@ use Rattle.oc_model.specs.Step.{received, step}
 use Rattle.oc_model.specs.Table.{newest, is_news}
 use Rattle.oc_model.proofs.Rules.{either}
 
-module _ (m c : ℕ) (d : Option ℕ) where
-  -- m acts at this second of its clock, and this is the second of its next check
+module _ (m c : ℕ) (d : Option ℕ) (s : ℕ) where
+  -- m acts at this second of its clock, this is the second of its next check, and this its ask number
   abbrev pub Acts : Control → Type 0
-  Acts n = (n.me ≡ m) × (n.kept.mode ≡ modes.Acting) × (n.soft.clock ≡ c) × (n.soft.due ≡ d)
+  Acts n = (n.me ≡ m) × (n.kept.mode ≡ modes.Acting) × (n.soft.clock ≡ c) × (n.soft.due ≡ d) × (n.kept.seq ≡ s)
 
   abbrev Reigns : Plan → Type 0
   Reigns o = Acts o.node
@@ -140,41 +140,45 @@ module _ (m c : ℕ) (d : Option ℕ) where
       (either (is_member raised.node) Reigns (looks_at_each (below raised.node.me) raised) raised (reigns_looks_at_each (below raised.node.me) raised reigns) reigns)
 
 -- what a tick has before its check
-abbrev Before : ℕ → ℕ → Option ℕ → Plan → Type 0
-Before m c due o = (o.node.me ≡ m) × (o.node.kept.mode ≡ modes.Acting) × (o.node.soft.clock ≡ c) × (o.node.soft.due ≡ due)
+abbrev Before : ℕ → ℕ → Option ℕ → ℕ → Plan → Type 0
+Before m c due s o = (o.node.me ≡ m) × (o.node.kept.mode ≡ modes.Acting) × (o.node.soft.clock ≡ c) × (o.node.soft.due ≡ due) × (o.node.kept.seq ≡ s)
 
-before_ends : (m c : ℕ) (due : Option ℕ) (ys : List ℕ) (o : Plan) → Before m c due o → Before m c due (ends_each ys o)
-before_ends m c due [] o h = h
-before_ends m c due (y ∷ ys) o h = before_ends m c due ys (dies (newest o.node.kept.table y) o) (by_row (newest o.node.kept.table y)) where
-  by_row : (e : Option Cert) → Before m c due (dies e o)
+before_ends : (m c : ℕ) (due : Option ℕ) (s : ℕ) (ys : List ℕ) (o : Plan) → Before m c due s o → Before m c due s (ends_each ys o)
+before_ends m c due s [] o h = h
+before_ends m c due s (y ∷ ys) o h = before_ends m c due s ys (dies (newest o.node.kept.table y) o) (by_row (newest o.node.kept.table y)) where
+  by_row : (e : Option Cert) → Before m c due s (dies e o)
   by_row None = h
-  by_row (Some k) = either (is_news o.node.kept.table (record k { dead = true })) (Before m c due) (write o (records.Entry (record k { dead = true }))) o h h
+  by_row (Some k) = either (is_news o.node.kept.table (record k { dead = true })) (Before m c due s) (write o (records.Entry (record k { dead = true }))) o h h
 
-from_set : (m c : ℕ) (o : Plan) → (o.node.me ≡ m) × (o.node.kept.mode ≡ modes.Acting) × (o.node.soft.clock ≡ c) → Acts m c (Some (c + 20 - m % 3)) (looks_round o.node.kept.mode (tick_checks o)).node
-from_set m c o h =
+-- the same without the second of the check
+abbrev Stands : ℕ → ℕ → ℕ → Plan → Type 0
+Stands m c s o = (o.node.me ≡ m) × (o.node.kept.mode ≡ modes.Acting) × (o.node.soft.clock ≡ c) × (o.node.kept.seq ≡ s)
+
+from_set : (m c s : ℕ) (o : Plan) → Stands m c s o → Acts m c (Some (c + 20 - m % 3)) s (looks_round o.node.kept.mode (tick_checks o)).node
+from_set m c s o h =
     let set : Plan = sets_due o in
-    subst (λ (k : Mode). Acts m c (Some (c + 20 - m % 3)) (looks_round o.node.kept.mode (tick_checks_as k set)).node) (sym h.1)
-    (reigns_checked m c (Some (c + 20 - m % 3)) set (h.0, h.1, h.2, ap (λ (x : ℕ). Some (x + 20 - o.node.me % 3)) h.2 ∙ ap (λ (y : ℕ). Some (c + 20 - y % 3)) h.0))
+    subst (λ (k : Mode). Acts m c (Some (c + 20 - m % 3)) s (looks_round o.node.kept.mode (tick_checks_as k set)).node) (sym h.1)
+    (reigns_checked m c (Some (c + 20 - m % 3)) s set (h.0, h.1, h.2, ap (λ (x : ℕ). Some (x + 20 - o.node.me % 3)) h.2 ∙ ap (λ (y : ℕ). Some (c + 20 - y % 3)) h.0, h.3))
 
-after_forgets : (m c : ℕ) (due : Option ℕ) (o : Plan) → (o.node.me ≡ m) × (o.node.kept.mode ≡ modes.Acting) × (o.node.soft.clock ≡ c)
-    → Acts m c (Some (c + 20 - m % 3)) (looks_round o.node.kept.mode (tick_checks (forgets_refusal due o))).node
-after_forgets m c None o h = from_set m c o h
-after_forgets m c (Some e) o h = from_set m c (with_soft o (record o.node.soft { refused = false })) h
+after_forgets : (m c s : ℕ) (due : Option ℕ) (o : Plan) → Stands m c s o → Acts m c (Some (c + 20 - m % 3)) s (looks_round o.node.kept.mode (tick_checks (forgets_refusal due o))).node
+after_forgets m c s None o h = from_set m c s o h
+after_forgets m c s (Some e) o h = from_set m c s (with_soft o (record o.node.soft { refused = false })) h
 
-in_time : (m c : ℕ) (due : Option ℕ) (o : Plan) → Before m c due o → Acts m c (Some (c + 20 - m % 3)) (checks_in_time o).node
-in_time m c due o h = after_forgets m c o.node.soft.due o (h.0, h.1, h.2)
+in_time : (m c : ℕ) (due : Option ℕ) (s : ℕ) (o : Plan) → Before m c due s o → Acts m c (Some (c + 20 - m % 3)) s (checks_in_time o).node
+in_time m c due s o h = after_forgets m c s o.node.soft.due o (h.0, h.1, h.2, h.4)
 
 -- a tick at which the check is due sets the next one
 pub tick_reigns : (m : ℕ) (n : Node) (t : ℕ) → n.control.me ≡ m → n.control.kept.mode ≡ modes.Acting → is_due n.control.soft.due (max n.control.soft.clock t) ≡ true
-    → Acts m (max n.control.soft.clock t) (Some (max n.control.soft.clock t + 20 - m % 3)) (step n (Tick t)).node.control
+    → Acts m (max n.control.soft.clock t) (Some (max n.control.soft.clock t + 20 - m % 3)) n.control.kept.seq (step n (Tick t)).node.control
 tick_reigns m n t me acting due =
     let now : ℕ = max n.control.soft.clock t in
+    let s : ℕ = n.control.kept.seq in
     let after : Option ℕ = Some (now + 20 - m % 3) in
     let started : Plan = starts_leases (at_time (begun n.control) t) in
     let over : Plan = ends_leases started in
-    let before : Before m now n.control.soft.due over =
-    before_ends m now n.control.soft.due (ended started.node.kept.table started.node.me started.node.leases started.node.soft.clock) started (me, acting, refl, refl) in
+    let before : Before m now n.control.soft.due s over =
+    before_ends m now n.control.soft.due s (ended started.node.kept.table started.node.me started.node.leases started.node.soft.clock) started (me, acting, refl, refl, refl) in
     let due_now : is_due over.node.soft.due over.node.soft.clock ≡ true = ap (λ (e : Option ℕ). is_due e over.node.soft.clock) before.3 ∙ (ap (is_due n.control.soft.due) before.2 ∙ due) in
     let checked : Plan = checks_if_due over in
-    let done : Acts m now after checked.node = subst (λ (b : Bool). Acts m now after (if b then checks_in_time over else reports_news over).node) (sym due_now) (in_time m now n.control.soft.due over before) in
-    subst (λ (k : Mode). Acts m now after (fetches_as k checked (shelf n.groups)).node) (sym done.1) done
+    let done : Acts m now after s checked.node = subst (λ (b : Bool). Acts m now after s (if b then checks_in_time over else reports_news over).node) (sym due_now) (in_time m now n.control.soft.due s over before) in
+    subst (λ (k : Mode). Acts m now after s (fetches_as k checked (shelf n.groups)).node) (sym done.1) done

@@ -1,4 +1,4 @@
--- A step that takes neither an ask nor a check-in sends no answer to one.
+-- A step that takes no look, no ask and no check-in sends no answer to one.
 use Rattle.std.proofs.Common.{ℕ, ◌+◌, ◌-◌, Bool, true, false, not, ◌&&◌, ◌||◌, ◌==◌, nat_lt, nat_le, if◌then◌else◌, Option, Some, None, is_some, List, [], ◌∷◌, length, filter}
 use Rattle.std.specs.List.{AllByRecursion}
 use Rattle.oc_base.specs.declared.cert.Cert.{Cert}
@@ -42,8 +42,9 @@ use Rattle.oc_model.specs.Table.{newest, is_news}
 use Rattle.oc_model.proofs.Rules.{either}
 use Rattle.oc_model.proofs.Lists.{all_append}
 
--- a message that is no answer to an ask or a check-in
+-- a message that is no answer to a look, an ask or a check-in
 abbrev pub IsStart : Body → Type 0
+IsStart (bodies.LookIs is_in parent rate children) = ⊥
 IsStart (bodies.Yes seq rank ancestors) = ⊥
 IsStart (bodies.No seq why) = ⊥
 IsStart (bodies.CheckAck seq upto rank ancestors) = ⊥
@@ -218,14 +219,15 @@ starts_took_chunk o ls p g start bytes last h =
 
 -- A message
 
--- it is neither an ask nor a check-in
+-- it is no look, no ask and no check-in
 abbrev pub IsUnasked : Body → Type 0
+IsUnasked bodies.Look = ⊥
 IsUnasked (bodies.Ask seq rank) = ⊥
 IsUnasked (bodies.CheckIn seq upto rate number clients certs) = ⊥
 IsUnasked b = Unit {0}
 
 starts_received : (o : Plan) (ls : List Shelf) (p : ℕ) (b : Body) → IsUnasked b → Starts o → Starts (received o ls p b)
-starts_received o ls p bodies.Look other h = all_append (λ (m : Message). IsStart m.body) o.sends _ h (tt, tt)
+starts_received o ls p bodies.Look other h = absurd other
 starts_received o ls p (bodies.LookIs is_in parent rate children) other h = starts_sees_as o.node.kept.mode o.node.soft.search o p (record { in_tree = is_in; parent = parent; rate = rate; children = children }) h
 starts_received o ls p (bodies.Ask seq rank) other h = absurd other
 starts_received o ls p (bodies.Yes seq rank ancestors) other h = starts_took_yes o p seq rank ancestors h
@@ -315,7 +317,7 @@ starts_tick o ls t h =
 
 fill_start : (bytes : List ℕ) (b : Body) → IsStart b → IsStart (fill_body bytes b)
 fill_start bytes bodies.Look is = tt
-fill_start bytes (bodies.LookIs is_in parent rate children) is = tt
+fill_start bytes (bodies.LookIs is_in parent rate children) is = absurd is
 fill_start bytes (bodies.Ask seq rank) is = tt
 fill_start bytes (bodies.Yes seq rank ancestors) is = absurd is
 fill_start bytes (bodies.No seq why) is = absurd is

@@ -1,12 +1,14 @@
 use Rattle.std.specs.Prelude.{◌≡◌, ℕ, true, false, Some, None, [], ◌∷◌}
-use Rattle.oc_model.specs.declared.event.Event.TheVariants.{Crash}
-use Rattle.oc_model.specs.declared.mode.Mode.TheVariants.{Asking, Joined, Acting}
+use Rattle.oc_model.specs.declared.event.Act.TheVariants.{At, Deliver}
+use Rattle.oc_model.specs.declared.event.Event.TheVariants.{Up, Crash, Do}
+use Rattle.oc_model.specs.declared.input.Input.TheVariants.{CheckNow, Relocate}
+use Rattle.oc_model.specs.declared.mode.Mode.TheVariants.{Idle, Asking, Joined, Acting}
 use Rattle.oc_model.specs.ClaimsTree.{table_of, seq_of}
 use Rattle.oc_model.specs.ExampleRuns.{header}
-use Rattle.oc_model.specs.NextWorld.{next_world}
+use Rattle.oc_model.specs.NextWorld.{next_world, world_after}
 use Rattle.oc_model.specs.Numbers.{at}
 use Rattle.oc_model.specs.Plan.{is_member, rate_to}
-use Rattle.oc_model.specs.Ready.{is_settled}
+use Rattle.oc_model.specs.Ready.{is_ready, is_settled}
 use Rattle.oc_model.specs.Table.{leased_by}
 use Rattle.oc_model.specs.World.{World, node, mode_of}
 use Rattle.oc_laws_rest.specs.Rounds.{Turn, Round, after_turns, after_rounds, is_quiet}
@@ -139,3 +141,53 @@ pub record DownAreForgotten : Type 0 where
   pub later : leased_by (table_of (after_rounds widowed (first ∷ [])) 1) 1 2 ≡ Some 1
   pub forgotten : leased_by (table_of (after_rounds widowed (first ∷ second ∷ [])) 1) 1 2 ≡ None
   pub another : leased_by (table_of (after_rounds widowed (first ∷ second ∷ [])) 1) 1 3 ≡ Some 1
+
+-- The source goes down when the second chain member comes up, and a node past the chain, a child of the source, finds the member: in
+-- the round, if the member acts when it is asked, and otherwise in the next one.
+
+abbrev orphan : World
+orphan =
+    next_world (next_world (after_rounds (begun (header 3 2 (0 ∷ 0 ∷ 0 ∷ [])) (1 ∷ 3 ∷ [])) (record { turns = turn 1 0 ∷ turn 3 0 ∷ []; arrivals = 1 ∷ 2 ∷ 3 ∷ 4 ∷ [] } ∷ [])) (Crash 1)) (Up 2)
+
+abbrev soon : Round
+soon = record { turns = turn 2 0 ∷ turn 3 5 ∷ []; arrivals = 5 ∷ 6 ∷ 7 ∷ 8 ∷ 9 ∷ 10 ∷ [] }
+
+-- the member learns last that the source is down
+abbrev refusing : Round
+refusing = record { turns = turn 2 0 ∷ turn 3 5 ∷ []; arrivals = 6 ∷ 7 ∷ 8 ∷ 9 ∷ 10 ∷ 5 ∷ [] }
+
+abbrev again : Round
+again = record { turns = turn 2 18 ∷ turn 3 9 ∷ []; arrivals = 11 ∷ 12 ∷ 13 ∷ 14 ∷ [] }
+
+pub record OrphansFindTheRoot : Type 0 where
+  pub child : mode_of orphan 3 ≡ Joined 1
+  pub before : is_ready orphan ≡ false
+  pub quiet : is_quiet orphan (soon ∷ []) ≡ true
+  pub found : is_ready (after_rounds orphan (soon ∷ [])) ≡ true
+  pub late : is_quiet orphan (refusing ∷ again ∷ []) ≡ true
+  pub refused : mode_of (after_rounds orphan (refusing ∷ [])) 3 ≡ Idle
+  pub root : mode_of (after_rounds orphan (refusing ∷ [])) 2 ≡ Acting
+  pub later : is_ready (after_rounds orphan (refusing ∷ again ∷ [])) ≡ true
+
+-- The third node moves beneath the second and goes down: two rounds later its lease has ended there. Its old lease of the source ended
+-- when the source was told that it moved.
+
+abbrev nested : World
+nested = world_after (after_rounds three (joining ∷ [])) (
+    Do (At 1 CheckNow) ∷ Do (At 2 CheckNow) ∷ Do (Deliver 9) ∷ Do (Deliver 10) ∷ Do (At 3 (Relocate 2)) ∷ Do (Deliver 11) ∷ Do (Deliver 12) ∷ Crash 3 ∷ []
+    )
+
+abbrev telling : Round
+telling = record { turns = turn 2 18 ∷ turn 1 19 ∷ []; arrivals = 13 ∷ 14 ∷ 15 ∷ 16 ∷ 17 ∷ [] }
+
+abbrev ending : Round
+ending = record { turns = turn 2 36 ∷ turn 1 38 ∷ []; arrivals = 18 ∷ 19 ∷ 20 ∷ 21 ∷ 22 ∷ [] }
+
+pub record StaleLeasesEnd : Type 0 where
+  pub child : mode_of nested 3 ≡ Joined 2
+  pub at_source : leased_by (table_of nested 1) 1 3 ≡ Some 1
+  pub at_parent : leased_by (table_of nested 2) 2 3 ≡ Some 2
+  pub quiet : is_quiet nested (telling ∷ ending ∷ []) ≡ true
+  pub moved : leased_by (table_of (after_rounds nested (telling ∷ [])) 1) 1 3 ≡ None
+  pub still : leased_by (table_of (after_rounds nested (telling ∷ [])) 2) 2 3 ≡ Some 2
+  pub forgotten : leased_by (table_of (after_rounds nested (telling ∷ ending ∷ [])) 2) 2 3 ≡ None

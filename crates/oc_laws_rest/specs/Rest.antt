@@ -1,14 +1,14 @@
-use Rattle.std.specs.Prelude.{◌≡◌, ℕ, ◌+◌, ◌≤◌, true, Some, None, List, map}
+use Rattle.std.specs.Prelude.{◌≡◌, ℕ, ◌+◌, ◌≤◌, ◌<◌, true, Some, None, List, map}
 use Rattle.oc_model.specs.declared.event.Event.TheVariants.{Up}
 use Rattle.oc_model.specs.declared.mode.Mode.TheVariants.{Asking}
 use Rattle.oc_model.specs.Chains.{IsUp, IsJoined, true_line}
 use Rattle.oc_model.specs.Checking.{is_peer}
 use Rattle.oc_model.specs.ClaimsTree.{table_of, seq_of, IsTold}
-use Rattle.oc_model.specs.Heal.{IsMember}
+use Rattle.oc_model.specs.Heal.{IsMember, epoch_in}
 use Rattle.oc_model.specs.Leases.{lease_time}
 use Rattle.oc_model.specs.NextWorld.{world_after}
 use Rattle.oc_model.specs.Node.{Header}
-use Rattle.oc_model.specs.Numbers.{at}
+use Rattle.oc_model.specs.Numbers.{at, number_end}
 use Rattle.oc_model.specs.Plan.{rate_to}
 use Rattle.oc_model.specs.Ready.{HoldsLease, IsReadyUnder, IsSettled}
 use Rattle.oc_model.specs.Table.{table_line}
@@ -69,3 +69,15 @@ pub record IsUnmeasured (w : World) (x : ℕ) : Type 0 where
 -- each lease that m holds is of a node that is up
 abbrev pub LeasesAreOfUp : World → ℕ → Type 0
 LeasesAreOfUp w m = (x s : ℕ) → HoldsLease w m x s → IsUp w x
+
+-- no node that is up has measured a way
+abbrev pub NobodyMeasured : World → Type 0
+NobodyMeasured w = (x y : ℕ) → IsUp w x → rate_to (node w x).control y ≡ 0
+
+-- each node that is up has ask numbers left, and epochs
+abbrev pub HaveRoom : World → Type 0
+HaveRoom w = (x : ℕ) → IsUp w x → (seq_of w x < number_end) × (epoch_in (node w x).control.kept.rank < number_end)
+
+-- each lease that a node that is up holds is of a node that is up, and is joined to it by that ask number
+abbrev pub LeasesAreCurrent : World → Type 0
+LeasesAreCurrent w = (y x s : ℕ) → IsUp w y → HoldsLease w y x s → IsUp w x × IsJoined w x y × (seq_of w x ≡ s)

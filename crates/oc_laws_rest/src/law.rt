@@ -7,8 +7,9 @@ ghost use Rattle.oc_model.specs.Lawful.{IsHeader};
 ghost use Rattle.oc_model.specs.NextWorld.{world_after};
 ghost use Rattle.oc_model.specs.Node.{Header};
 ghost use Rattle.oc_model.specs.Numbers.{number_end};
+ghost use Rattle.oc_model.specs.Ready.{HoldsLease, IsReadyUnder};
 ghost use Rattle.oc_model.specs.World.{World, is_up, mode_of, new_world};
-ghost use Rattle.oc_laws_rest.specs.Rest.{IsAtRest, begun, IsOnlyMember, PeersAreUp, NobodyAsks, JoinedAreLeased, IsUnmeasured, LeasesAreOfUp, IsLeastMember};
+ghost use Rattle.oc_laws_rest.specs.Rest.{IsAtRest, begun, IsOnlyMember, PeersAreUp, NobodyAsks, JoinedAreLeased, IsUnmeasured, LeasesAreOfUp, IsLeastMember, NobodyMeasured, HaveRoom, LeasesAreCurrent};
 ghost use Rattle.oc_laws_rest.specs.Rounds.{Round, after_rounds, is_quiet};
 
 /// A new network in which one chain member is up comes to rest by itself in two rounds, and is at rest at the
@@ -81,11 +82,58 @@ pub fn least_members_become_roots()
 {}
 
 /// In every world that events lead to: once the least chain member that is up acts as root at the end of a round,
-/// after three more rounds each lease that it holds is of a node that is up. A node that is down sends nothing,
-/// so its lease is not renewed, and the clock of a root goes on by at least eighteen seconds in each of the
-/// last two rounds.
+/// after three more rounds each lease that it holds is of another node that is up. A node that is down sends
+/// nothing, and a root neither asks nor checks in, so such a lease is not renewed; and the clock of a root goes on
+/// by at least eighteen seconds in each of the last two rounds.
 pub fn roots_forget_the_down()
-    ensures { (h : Header) (es : List Event) (m : ℕ) (q : Round) (rs : List Round) (a b c : Round) → IsLeastMember (world_after (new_world h) es) m
+    ensures up { (h : Header) (es : List Event) (m : ℕ) (q : Round) (rs : List Round) (a b c : Round) → IsLeastMember (world_after (new_world h) es) m
         → is_quiet (world_after (new_world h) es) (q ∷ rs ++ a ∷ b ∷ c ∷ []) ≡ true → IsRoot (after_rounds (world_after (new_world h) es) (q ∷ rs)) m
         → LeasesAreOfUp (after_rounds (world_after (new_world h) es) (q ∷ rs ++ a ∷ b ∷ c ∷ [])) m }
+    ensures itself { (h : Header) (es : List Event) (m : ℕ) (q : Round) (rs : List Round) (a b c : Round) (s : ℕ) → IsLeastMember (world_after (new_world h) es) m
+        → is_quiet (world_after (new_world h) es) (q ∷ rs ++ a ∷ b ∷ c ∷ []) ≡ true → IsRoot (after_rounds (world_after (new_world h) es) (q ∷ rs)) m
+        → HoldsLease (after_rounds (world_after (new_world h) es) (q ∷ rs ++ a ∷ b ∷ c ∷ [])) m m s → ⊥ }
+{}
+
+/// In every world that events lead to in which one chain member is up, and no node that is up has measured a way:
+/// after six rounds, and at the end of each later one, the network is one tree. The member is the one root, each
+/// other node that is up has a chain of nodes that are up to it, and each parent holds its child's lease. The old
+/// messages, places, ranks and leases may be any; ask numbers and epochs must not have run out.
+///
+/// The member acts as root after two rounds. After three more it holds no lease of a node that is down, so that it
+/// refuses nobody. A node that has no place then finds one: it tries the member, if not another node before, and no
+/// node keeps a search from an earlier round.
+pub fn networks_of_one_member_become_ready()
+    ensures { (h : Header) (es : List Event) (m : ℕ) (q r : Round) (rs : List Round) (a b c d : Round) → IsOnlyMember (world_after (new_world h) es) m → NobodyMeasured (world_after (new_world h) es)
+        → is_quiet (world_after (new_world h) es) (q ∷ r ∷ rs ++ a ∷ b ∷ c ∷ d ∷ []) ≡ true → HaveRoom (after_rounds (world_after (new_world h) es) (q ∷ r ∷ rs ++ a ∷ b ∷ c ∷ d ∷ []))
+        → IsReadyUnder (after_rounds (world_after (new_world h) es) (q ∷ r ∷ rs ++ a ∷ b ∷ c ∷ d ∷ [])) m }
+{}
+
+/// In every world that events lead to: a node past the chain that has measured no way, and is joined at the end of
+/// the second round or of a later one, holds three rounds later no lease of a node that is down. Such a node keeps
+/// its place, so its next check is due by its clock, which goes on by at least eighteen seconds in each of the
+/// last two rounds.
+pub fn children_forget_the_down()
+    ensures { (h : Header) (es : List Event) (q r : Round) (rs : List Round) (a b c : Round) (x p : ℕ) → is_quiet (world_after (new_world h) es) (q ∷ r ∷ rs ++ a ∷ b ∷ c ∷ []) ≡ true
+        → IsUnmeasured (after_rounds (world_after (new_world h) es) (q ∷ r ∷ rs)) x → IsUp (after_rounds (world_after (new_world h) es) (q ∷ r ∷ rs)) x
+        → IsJoined (after_rounds (world_after (new_world h) es) (q ∷ r ∷ rs)) x p → LeasesAreOfUp (after_rounds (world_after (new_world h) es) (q ∷ r ∷ rs ++ a ∷ b ∷ c ∷ [])) x }
+{}
+
+/// In every world that events lead to in which one chain member is up, and no node that is up has measured a way:
+/// once the network is one tree at the end of the second round or of a later one, as
+/// [`networks_of_one_member_become_ready`] tells, three rounds later no lease is stale. Each lease that a node holds
+/// is of a node that is up, and joined to it by that ask number. A node that is down sends nothing, the root neither
+/// asks nor checks in, and a child checks in with its parent alone, so that no other lease is renewed.
+pub fn stale_leases_end()
+    ensures { (h : Header) (es : List Event) (m : ℕ) (q r : Round) (rs : List Round) (a b c : Round) → IsOnlyMember (world_after (new_world h) es) m → NobodyMeasured (world_after (new_world h) es)
+        → is_quiet (world_after (new_world h) es) (q ∷ r ∷ rs ++ a ∷ b ∷ c ∷ []) ≡ true → IsReadyUnder (after_rounds (world_after (new_world h) es) (q ∷ r ∷ rs)) m
+        → LeasesAreCurrent (after_rounds (world_after (new_world h) es) (q ∷ r ∷ rs ++ a ∷ b ∷ c ∷ [])) }
+{}
+
+/// In every world that events lead to in which one chain member is up, and no node that is up has measured a way:
+/// once the network is one tree at the end of the second round or of a later one, it is one tree at the end of each
+/// later round. Each node keeps its parent, and the root acts on.
+pub fn trees_stay()
+    ensures { (h : Header) (es : List Event) (m : ℕ) (q r : Round) (rs more : List Round) → IsOnlyMember (world_after (new_world h) es) m → NobodyMeasured (world_after (new_world h) es)
+        → is_quiet (world_after (new_world h) es) (q ∷ r ∷ rs ++ more) ≡ true → IsReadyUnder (after_rounds (world_after (new_world h) es) (q ∷ r ∷ rs)) m
+        → IsReadyUnder (after_rounds (world_after (new_world h) es) (q ∷ r ∷ rs ++ more)) m }
 {}

@@ -24,6 +24,3 @@ returns-clause-left c = record { met = refl; joined = refl; quiet = refl; root =
 
 pub returns-clause-clock : goal.returns-clause-clock
 returns-clause-clock c = record { not_quiet = refl; joined = refl; seq = refl; asks_anew = refl }
-
-pub returns-clause-forgotten : goal.returns-clause-forgotten
-returns-clause-forgotten c = record { quiet = refl; before = refl; later = refl; forgotten = refl; another = refl }

@@ -1,0 +1,8 @@
+use Rattle.oc_model.specs.NextWorld.{world_after}
+use Rattle.oc_model.specs.World.{new_world}
+use Rattle.oc_laws_tree.proofs.Reached.{reached_after}
+use Rattle.oc_laws_rest.proofs.Readies.{becomes_current}
+use Rattle.oc_laws_rest.proofs.law.stale_leases_end.Goals as goal
+
+pub returns : goal.returns
+returns w h es m q r rs a b c only measured quiet ready = becomes_current h (world_after (new_world h) es) (reached_after h es) m only measured q r rs a b c quiet ready

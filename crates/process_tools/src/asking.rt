@@ -12,19 +12,22 @@ pub fn ask(rt: &HostRuntime, home: &Home, text: &[u8]) -> io::Result<Vec<u8>> {
     Ok(reply)
 }
 
-/// The text of a publish of 16 bytes or fewer to a group.
+/// The text of a publish of 16 bytes or fewer to a group, after which the node ends the connection.
 pub fn publish_text(rt: &HostRuntime, path: &str, bytes: &str) -> io::Result<String> {
     Ok(format!(in rt.alloc();
-        "POST {} HTTP/1.1\r\nHost: localhost\r\nContent-Length: {}\r\n\r\n{}",
+        "POST {} HTTP/1.1\r\nHost: localhost\r\nConnection: close\r\nContent-Length: {}\r\n\r\n{}",
         path,
         bytes.len(),
         bytes
     )?)
 }
 
-/// The text of a GET.
+/// The text of a GET, after which the node ends the connection.
 pub fn get_text(rt: &HostRuntime, path: &str) -> io::Result<String> {
-    Ok(format!(in rt.alloc(); "GET {} HTTP/1.1\r\nHost: localhost\r\n\r\n", path)?)
+    Ok(format!(in rt.alloc();
+        "GET {} HTTP/1.1\r\nHost: localhost\r\nConnection: close\r\n\r\n",
+        path
+    )?)
 }
 
 /// Whether the reply has status 200.

@@ -1,41 +1,46 @@
-//! The meaning of the bytes of a connection, and the access rules of a row.
+//! The verdict on the bytes of a row, and the access rules of a row.
 
 ghost use Rattle.std.specs.Prelude.{◌≤◌, IfOk, length};
-ghost use Rattle.oc_base.specs.declared.limits.TheConstants.{MAX_BODY_BYTES};
-ghost use Rattle.oc_routes.specs.Lawful.{IsAsked};
+ghost use Rattle.oc_routes.specs.Asks.{IsLawfulVerdict};
 
-use oc_base::MAX_BODY_BYTES;
-use oc_http::{Head, read_body, read_head};
-use oc_io::MemSource;
-use oc_policy::{Action, Demand, MAX_RULES, Prefix, Rule, Token};
-use oc_routes::{Operation, Refused, RouteFault, route};
+use oc_base::NodeId;
+use oc_http::HeadReader;
+use oc_link::{Arrival, Coming, ConnectionId};
+use oc_policy::{Action, Demand, Keyring, MAX_RULES, Prefix, Rule, Token};
+use oc_routes::{Terms, Verdict, judge};
 use std::alloc::Global;
 use test_tools::{Fault, RowFields};
 
-/// A request that was read.
-#[derive(Drop)]
-pub struct ReadRequest {
-    pub head: Head,
-    pub asks: Operation,
-    pub body: Vec<u8>,
-}
+/// The number of nodes.
+pub const NODES: u32 = 3;
 
-/// The request in the bytes of a connection, with its body.
-pub fn request_in(alloc: Global, bytes: Vec<u8>, rules: &[Rule]) -> Result<ReadRequest, RouteFault>
+/// The verdict of the node `me`, with these access rules and without a key, on the whole bytes of a connection: a request of
+/// this number, whose body is permitted, and then the end.
+pub fn verdict_on(
+    alloc: Global,
+    me: NodeId,
+    rules: &[Rule],
+    number: u64,
+    bytes: &[u8],
+) -> Result<Verdict, Fault>
     requires { length rules.now ≤ MAX_RULES }
-    ensures asks { IfOk result (λ request. IsAsked request.asks) }
-    ensures body { IfOk result (λ request. length request.body.items ≤ MAX_BODY_BYTES) }
+    ensures { IfOk result (IsLawfulVerdict 3 me) }
 {
-    let mut source = MemSource::new(bytes, Vec::new(alloc));
-    let head = read_head(alloc, &mut source)?;
-    let asks = route(&head, rules)?;
-
-    // A longer body was refused with the head.
-    if head.length > MAX_BODY_BYTES {
-        return Err(RouteFault::Refused(Refused::BodyLong));
-    }
-    let body = read_body(alloc, &mut source, &head)?;
-    Ok(ReadRequest { head, asks, body })
+    let keys: Option<&Keyring> = None;
+    let terms = Terms {
+        me,
+        nodes: NODES,
+        rules,
+        keys,
+    };
+    let arrival = Arrival {
+        connection: ConnectionId(7),
+        number,
+        permitted: true,
+        coming: Coming::Ended,
+    };
+    let mut heads = HeadReader::new(alloc)?;
+    Ok(judge(alloc, &mut heads, &terms, arrival, bytes)?)
 }
 
 /// The rules in a text, with commas between them, or `-` for none. Each is `allow` or `deny`,

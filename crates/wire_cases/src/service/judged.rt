@@ -1,16 +1,14 @@
 //! The verdict on the bytes that came on a connection.
 
+use crate::service::asking::NODES;
 use crate::service::requests::put_refusal;
 use oc_base::NodeId;
 use oc_http::HeadReader;
 use oc_link::{Arrival, Coming, ConnectionId};
 use oc_policy::{Key, Keyring};
-use oc_routes::{Hint, Operation, Report, Request, Terms, Verdict, judge};
+use oc_routes::{Hint, Operation, Refusal, Report, Request, Terms, Verdict, judge};
 use std::alloc::Global;
 use test_tools::{Fault, RowFields, spelled_in};
-
-/// The number of nodes.
-const NODES: u32 = 3;
 
 /// Puts the words of a row: the verdict.
 pub fn put_words(alloc: Global, given: &str, said: &mut String) -> Result<(), Fault> {
@@ -66,9 +64,17 @@ fn put_verdict(alloc: Global, said: &mut String, verdict: &Verdict) -> Result<()
         Verdict::Wait => Ok(said.push_str("wait")?),
         Verdict::Leave => Ok(said.push_str("leave")?),
         Verdict::Permit => Ok(said.push_str("permit")?),
-        Verdict::Refuse(refusal) => put_refusal(alloc, said, *refusal),
+        Verdict::Refuse(refusal) => put_refused(alloc, said, *refusal),
         Verdict::Ask(request) => put_request(said, request),
     }
+}
+
+/// Puts the line and the reply of a refused request, and before them the number of its bytes where its connection is kept.
+fn put_refused(alloc: Global, said: &mut String, refusal: Refusal) -> Result<(), Fault> {
+    if let Some(count) = refusal.kept {
+        write!(said, "{count} ")?;
+    }
+    put_refusal(alloc, said, refusal)
 }
 
 /// Appends the length of a request in bytes, its meaning, and its other parts.

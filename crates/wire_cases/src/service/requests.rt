@@ -1,20 +1,15 @@
 //! The meaning of requests: the line of the input that results from a request, or the line and the
 //! reply of one that is refused.
 
-ghost use Rattle.std.specs.Prelude.{◌≤◌, length};
-ghost use Rattle.oc_policy.specs.declared.deciding.TheConstants.{MAX_RULES as RULE_LIMIT};
+ghost use Rattle.std.specs.Prelude.{IfSome};
+ghost use Rattle.oc_model.specs.Lawful.{IsInput};
 
-use crate::service::asking::{request_in, rules_in};
+use crate::service::asking::{rules_in, verdict_on};
 use oc_base::NodeId;
-use oc_policy::Rule;
-use oc_routes::{
-    Asker, Refusal, RouteFault, input_of, put_input_line, put_refusal_line, refusal_reply,
-};
+use oc_routes::{Refusal, Request, Verdict, put_input_line, put_refusal_line, refusal_reply};
+use oc_wire::spellings_are_read;
 use std::alloc::Global;
 use test_tools::{Fault, RowFields, put_spelled, spelled_in};
-
-/// The number of nodes.
-const NODES: u32 = 3;
 
 /// Puts the words of a row: the line, and for a refused request the reply.
 pub fn put_words(alloc: Global, given: &str, said: &mut String) -> Result<(), Fault> {
@@ -23,25 +18,23 @@ pub fn put_words(alloc: Global, given: &str, said: &mut String) -> Result<(), Fa
     let me = RowFields::of(me, ' ').node()?;
     let rules = rules_in(alloc, rules)?;
     let bytes = spelled_in(alloc, text)?;
-    let asker = Asker::of_front(&bytes);
-    match line_of(alloc, bytes, &rules, me) {
-        Ok(line) => put_line(said, &line),
-        Err(RouteFault::Refused(why)) => put_refusal(alloc, said, Refusal { why, asker }),
-        Err(RouteFault::Memory) => Err(Fault::Memory),
+    match verdict_on(alloc, me, &rules, 1, &bytes)? {
+        Verdict::Ask(request) => put_input(alloc, said, me, &request),
+        Verdict::Refuse(refusal) => put_refusal(alloc, said, refusal),
+        Verdict::Wait | Verdict::Leave | Verdict::Permit => Err(Fault::Unready),
     }
 }
 
-/// The line of the input that results from a request; empty if there is none.
-fn line_of(alloc: Global, bytes: Vec<u8>, rules: &[Rule], me: NodeId) -> Result<Vec<u8>, RouteFault>
-    requires { length rules.now ≤ RULE_LIMIT }
+/// Puts the line of the input that results from a request.
+fn put_input(alloc: Global, said: &mut String, me: NodeId, request: &Request) -> Result<(), Fault>
+    requires { IfSome request.now.input (IsInput 3 me) }
 {
-    let request = request_in(alloc, bytes, rules)?;
-    let body = request.body;
+    spellings_are_read();
     let mut line = Vec::new(alloc);
-    if let Some(input) = input_of(alloc, &request.asks, body, me, NODES)? {
-        put_input_line(alloc, &mut line, me, &input)?;
+    if let Some(input) = &request.input {
+        put_input_line(alloc, &mut line, me, input)?;
     }
-    Ok(line)
+    put_line(said, &line)
 }
 
 /// Puts the line and the reply of a refused request.

@@ -1,15 +1,16 @@
 //! The reply to a request, given the answer of its step.
 
-ghost use Rattle.std.specs.Prelude.{option_map};
+ghost use Rattle.std.specs.Prelude.{IfOk, option_map};
 ghost use Rattle.std.specs.Option.{ForSome};
-ghost use Rattle.oc_routes.specs.Lawful.{IsAsked};
+ghost use Rattle.oc_routes.specs.Lawful.{IsAsking};
 ghost use Rattle.oc_wire.specs.Spelling.{HasSpelling};
 
-use crate::service::asking::{ReadRequest, request_in};
+use crate::service::asking::verdict_on;
 use oc_base::NodeId;
 use oc_model::{Answer, Message};
 use oc_routes::{
-    Answered, Asked, Directory, Hint, Holding, Operation, Persistence, Response, is_last, respond,
+    Answered, Directory, Holding, Operation, Persistence, Request, Response, Verdict, respond,
+    settled,
 };
 use oc_wire::decode;
 use std::alloc::Global;
@@ -27,7 +28,7 @@ pub fn put_words(alloc: Global, given: &str, said: &mut String) -> Result<(), Fa
     }
 }
 
-/// How many bytes the node holds of the group that is asked for.
+/// How many bytes the node holds of the group that is asked for, where a row says nothing of them.
 const HELD: u64 = 9;
 
 /// What comes to a request besides its bytes.
@@ -37,6 +38,8 @@ struct Turn {
     number: u64,
     answer: Answer,
     sealed: bool,
+    /// How many bytes the node holds of the group that is asked for.
+    held: u64,
 }
 
 /// Puts the words of the row of this turn.
@@ -48,13 +51,30 @@ fn put_answered(
     said: &mut String,
 ) -> Result<(), Fault> {
     let reply = RowFields::of(reply, ' ').bytes(alloc)?;
-    match request_in(alloc, spelled_in(alloc, text)?, &[]) {
-        Ok(request) => put_response(said, &response_of(alloc, &request, turn, &reply)?),
-        Err(_) => Err(Fault::Unready),
+    let request = request_in(alloc, turn, &spelled_in(alloc, text)?)?;
+    put_response(said, &response_of(alloc, &request, turn, &reply)?)
+}
+
+/// The request in the bytes of a connection, as a node answers it that holds the group so.
+fn request_in(alloc: Global, turn: Turn, bytes: &[u8]) -> Result<Request, Fault>
+    ensures { IfOk result (λ request. IsAsking request.asked) }
+{
+    match verdict_on(alloc, NodeId(1), &[], turn.number, bytes)? {
+        Verdict::Ask(request) => Ok(settled(alloc, request, holding_in(turn))?),
+        _ => Err(Fault::Unready),
     }
 }
 
-/// The turn of a text such as `1,serve:3,open`.
+/// The holding of a turn.
+fn holding_in(turn: Turn) -> Holding {
+    Holding {
+        there: true,
+        held: turn.held,
+        sealed: turn.sealed,
+    }
+}
+
+/// The turn of a text such as `1,serve:3,open` or `1,serve:3,open,5`.
 fn turn_in(mut fields: RowFields<'_>) -> Result<Turn, Fault> {
     let number = fields.number()?;
     let answer = answer_in(RowFields::of(fields.text(), ':'))?;
@@ -63,10 +83,16 @@ fn turn_in(mut fields: RowFields<'_>) -> Result<Turn, Fault> {
         "open" => false,
         _ => return Err(Fault::Field),
     };
+    let held = if fields.is_empty() {
+        HELD
+    } else {
+        fields.number()?
+    };
     Ok(Turn {
         number,
         answer,
         sealed,
+        held,
     })
 }
 
@@ -87,15 +113,10 @@ fn answer_in(mut fields: RowFields<'_>) -> Result<Answer, Fault> {
 
 /// The response, if the message of these bytes goes back to the sender, or if this is the node's
 /// report about itself.
-fn response_of(
-    alloc: Global,
-    request: &ReadRequest,
-    turn: Turn,
-    back: &[u8],
-) -> Result<Response, Fault>
-    requires { IsAsked request.now.asks }
+fn response_of(alloc: Global, request: &Request, turn: Turn, back: &[u8]) -> Result<Response, Fault>
+    requires { IsAsking request.now.asked }
 {
-    if back.is_empty() || matches!(request.asks, Operation::Report { .. }) {
+    if back.is_empty() || matches!(request.asked.operation, Operation::Report { .. }) {
         return respond_with(alloc, request, turn, None, back);
     }
     match decode(alloc, back, 3) {
@@ -106,28 +127,19 @@ fn response_of(
 
 fn respond_with(
     alloc: Global,
-    request: &ReadRequest,
+    request: &Request,
     turn: Turn,
     reply: Option<&Message>,
     report: &[u8],
 ) -> Result<Response, Fault>
-    requires asks { IsAsked request.now.asks }
+    requires asks { IsAsking request.now.asked }
     requires reply { ForSome (option_map (λ m. m.now) reply) (λ m. HasSpelling m.body) }
 {
     let addresses = addresses(alloc)?;
-    let last = is_last(&request.head, turn.number);
-    let asked = Asked {
-        operation: request.asks,
-        hint: Hint::Plain,
-    };
     let answered = Answered {
         answer: turn.answer,
         back: reply,
-        holding: Holding {
-            there: true,
-            held: HELD,
-            sealed: turn.sealed,
-        },
+        holding: holding_in(turn),
         report,
     };
     let network = Directory {
@@ -136,7 +148,7 @@ fn respond_with(
         retired: &[],
         key: None,
     };
-    Ok(respond(alloc, asked, last, &answered, &network)?)
+    Ok(respond(alloc, request.asked, request.last, &answered, &network)?)
 }
 
 fn addresses(alloc: Global) -> Result<Vec<Option<String>>, Fault> {

@@ -258,7 +258,36 @@ fn put_head(said: &mut String, head: &Head) -> Result<(), Fault> {
     put_value(said, " minor=", head.minor)?;
     put_value(said, " closes=", head.closes)?;
     put_authorization(said, head)?;
-    put_some(said, " mac=", &head.mac)
+    put_some(said, " mac=", &head.mac)?;
+    put_selectors(said, head)
+}
+
+/// Puts the values of the fields that select.
+fn put_selectors(said: &mut String, head: &Head) -> Result<(), Fault> {
+    let selectors = &head.selectors;
+    put_values(said, " if_match=", selectors.if_match.items())?;
+    put_values(said, " if_none_match=", selectors.if_none_match.items())?;
+    put_values(
+        said,
+        " if_modified_since=",
+        selectors.if_modified_since.items(),
+    )?;
+    put_values(
+        said,
+        " if_unmodified_since=",
+        selectors.if_unmodified_since.items(),
+    )?;
+    put_values(said, " if_range=", selectors.if_range.items())?;
+    put_values(said, " range=", selectors.range.items())
+}
+
+/// Puts each value of a name, with the name.
+fn put_values(said: &mut String, name: &str, values: &[Text]) -> Result<(), Fault> {
+    for value in values {
+        put(said, name)?;
+        put_spelled(said, value.items())?;
+    }
+    Ok(())
 }
 
 /// Puts the value of the one Authorization field, or that there are several.
@@ -300,16 +329,25 @@ fn put_reply_head(said: &mut String, head: &ReplyHead) -> Result<(), Fault> {
     put_some(said, " mac=", &head.mac)
 }
 
-/// Puts a reply that was read; reading gives neither a content type nor a rule nor a content range.
+/// Puts a reply that was read; reading gives neither a content type nor a rule, nor a range or a tag of the content.
 fn put_reply(said: &mut String, reply: &Reply) -> Result<(), Fault> {
     put_status(said, reply.status, &reply.location)?;
     put(said, " body=")?;
     put_spelled(said, reply.body.items())?;
-    if reply.content_type.is_some() || reply.rule.is_some() || reply.content_range.is_some() {
+    if has_more(reply) {
         put(said, " and more")?;
     }
     put_group_length(said, reply.group_length)?;
     put_some(said, " mac=", &reply.mac)
+}
+
+/// Whether a reply has what reading does not give.
+fn has_more(reply: &Reply) -> bool {
+    reply.content_type.is_some()
+        || reply.rule.is_some()
+        || reply.content_range.is_some()
+        || reply.etag.is_some()
+        || reply.accepts_ranges
 }
 
 fn put_status(said: &mut String, status: u16, location: &Option<Text>) -> Result<(), Fault> {

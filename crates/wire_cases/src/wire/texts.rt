@@ -6,8 +6,8 @@ ghost use Rattle.oc_http.specs.Writing.{HasPhrase};
 use crate::wire::words::put_text;
 use oc_base::{Bytes, Text};
 use oc_http::{
-    ContentType, Framing, Persistence, Reply, put_path, write_follow, write_get, write_probe,
-    write_reply_head, write_request, write_response, write_response_head, write_response_to_head,
+    ContentType, Framing, MediaType, Persistence, Reply, put_path, write_follow, write_get,
+    write_probe, write_reply_head, write_request, write_response, write_response_to_head,
 };
 use std::alloc::Global;
 use test_tools::{Fault, RowFields, spelled_in};
@@ -20,12 +20,12 @@ pub fn put_words(alloc: Global, given: &str, said: &mut String) -> Result<(), Fa
         "get" => put_get(alloc, fields, said),
         "probe" => put_text(said, write_probe(alloc, fields.text())),
         "follow" => put_follow(alloc, fields, said),
-        "reply" => put_reply(alloc, fields, said),
+        "reply" => put_reply(alloc, fields, Persistence::Close, said),
+        "kept" => put_reply(alloc, fields, Persistence::Keep, said),
         "told" => put_told(alloc, fields, said),
-        "unmet" => put_unmet(alloc, fields, said),
+        "about" => put_about(alloc, fields, said),
         "to_head" => put_to_head(alloc, fields, said),
         "path" => put_path_text(alloc, fields, said),
-        "head" => put_head(alloc, fields, said),
         "stream" => put_stream(alloc, fields, said),
         _ => Err(Fault::Field),
     }
@@ -52,42 +52,48 @@ fn put_follow(alloc: Global, mut fields: RowFields<'_>, said: &mut String) -> Re
     put_text(said, write_follow(alloc, path, start, area, fields.text()))
 }
 
-fn put_reply(alloc: Global, fields: RowFields<'_>, said: &mut String) -> Result<(), Fault> {
+fn put_reply(
+    alloc: Global,
+    fields: RowFields<'_>,
+    connection: Persistence,
+    said: &mut String,
+) -> Result<(), Fault> {
     let reply = reply_in(alloc, fields)?;
-    put_text(said, write_response(alloc, &reply))
+    put_text(said, write_response(alloc, &reply, connection))
 }
 
 fn put_told(alloc: Global, mut fields: RowFields<'_>, said: &mut String) -> Result<(), Fault> {
     let group_length = group_length_in(fields.text())?;
     let mac = fields.text();
-    let mac = location_in(alloc, mac)?;
+    let mac = some_text_in(alloc, mac)?;
     let mut reply = reply_in(alloc, fields)?;
     reply.group_length = group_length;
     reply.mac = mac;
-    put_text(said, write_response(alloc, &reply))
+    put_text(said, write_response(alloc, &reply, Persistence::Close))
 }
 
-fn put_unmet(alloc: Global, mut fields: RowFields<'_>, said: &mut String) -> Result<(), Fault> {
-    let length = fields.number()?;
+fn put_about(alloc: Global, mut fields: RowFields<'_>, said: &mut String) -> Result<(), Fault> {
+    let content_range = some_text_in(alloc, fields.text())?;
+    let etag = some_text_in(alloc, fields.text())?;
+    let accepts_ranges = fields.text() == "yes";
     let mut reply = reply_in(alloc, fields)?;
-    reply.content_range = Some(length);
-    put_text(said, write_response(alloc, &reply))
+    reply.content_range = content_range;
+    reply.etag = etag;
+    reply.accepts_ranges = accepts_ranges;
+    put_text(said, write_response(alloc, &reply, Persistence::Close))
 }
 
 fn put_to_head(alloc: Global, fields: RowFields<'_>, said: &mut String) -> Result<(), Fault> {
     let reply = reply_in(alloc, fields)?;
-    put_text(said, write_response_to_head(alloc, &reply))
+    put_text(
+        said,
+        write_response_to_head(alloc, &reply, Persistence::Close),
+    )
 }
 
 fn put_path_text(alloc: Global, mut fields: RowFields<'_>, said: &mut String) -> Result<(), Fault> {
     let path = spelled_in(alloc, fields.text())?;
     Ok(put_path(said, &path)?)
-}
-
-fn put_head(alloc: Global, mut fields: RowFields<'_>, said: &mut String) -> Result<(), Fault> {
-    let length = fields.number()?;
-    let reply = reply_in(alloc, fields)?;
-    put_text(said, write_response_head(alloc, &reply, length))
 }
 
 fn put_stream(alloc: Global, mut fields: RowFields<'_>, said: &mut String) -> Result<(), Fault> {
@@ -120,7 +126,7 @@ fn reply_in(alloc: Global, mut fields: RowFields<'_>) -> Result<Reply, Fault>
     let location = fields.text();
     let content_type = content_type_in(fields.text())?;
     let rule = rule_in(fields.text())?;
-    let location = location_in(alloc, location)?;
+    let location = some_text_in(alloc, location)?;
     Ok(Reply {
         status,
         location,
@@ -128,6 +134,8 @@ fn reply_in(alloc: Global, mut fields: RowFields<'_>) -> Result<Reply, Fault>
         body: Bytes::of(spelled_in(alloc, fields.text())?),
         rule,
         content_range: None,
+        etag: None,
+        accepts_ranges: false,
         group_length: None,
         mac: None,
     })
@@ -141,6 +149,7 @@ fn content_type_in(text: &str) -> Result<Option<ContentType>, Fault> {
         "metrics" => Ok(Some(ContentType::Metrics)),
         "html" => Ok(Some(ContentType::Html)),
         "text" => Ok(Some(ContentType::Text)),
+        "png" => Ok(Some(ContentType::Media(MediaType::of("image/png")))),
         _ => Err(Fault::Field),
     }
 }
@@ -162,7 +171,8 @@ fn status_in(number: u32) -> Result<u16, Fault>
     }
 }
 
-fn location_in(alloc: Global, text: &str) -> Result<Option<Text>, Fault> {
+/// The text of a field; none for `-`.
+fn some_text_in(alloc: Global, text: &str) -> Result<Option<Text>, Fault> {
     match some_text(text) {
         Some(text) => Ok(Some(Text::of(spelled_in(alloc, text)?))),
         None => Ok(None),
@@ -187,6 +197,22 @@ fn has_phrase(status: u16) -> bool
 {
     matches!(
         status,
-        200 | 204 | 302 | 400 | 401 | 403 | 404 | 405 | 409 | 411 | 413 | 416 | 431 | 501 | 503
+        200 | 204
+            | 206
+            | 302
+            | 304
+            | 400
+            | 401
+            | 403
+            | 404
+            | 405
+            | 409
+            | 411
+            | 412
+            | 413
+            | 416
+            | 431
+            | 501
+            | 503
     )
 }
